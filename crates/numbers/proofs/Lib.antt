@@ -1,0 +1,2 @@
+pub mod Diff
+pub mod Bits
