@@ -1,0 +1,21 @@
+-- The balance of every driven route: start + recovered = arrival + drawn + spilled. Assumes nothing.
+use mathlib.Core.Path.{_≡_}
+use mathlib.Core.List.{List}
+use Prim.Native.Nat.{ℕ, _+_}
+use native.Mathlib.Omega.{arith}
+use Rattle.battery.specs.Drive.{fresh, driveAll}
+use Rattle.battery.specs.declared.Road.{Road}
+use Rattle.battery.specs.declared.Van.{Van}
+use Rattle.battery.specs.declared.Drove.the-variants.{On}
+use Rattle.battery.proofs.Drive.{Went, along}
+
+record Balanced (start : ℕ) (v : Van) : Type 0 where
+  pub sums : start + v .recovered ≡ v .charge + v .drawn + v .spilled
+
+one-road : (start : ℕ) (v w : Van) (r : Road) → Went v r w → Balanced start v → Balanced start w
+one-road start v w r g b = record { sums = omega arith }
+
+pub balance : (M start : ℕ) (rs : List Road) {w : Van} → driveAll (fresh M start) rs ≡ On w
+    → start + w .recovered ≡ w .charge + w .drawn + w .spilled
+balance M start rs e =
+    along (Balanced start) (one-road start) (fresh M start) rs e (record { sums = omega arith }) .sums

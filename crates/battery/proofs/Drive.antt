@@ -1,0 +1,88 @@
+-- Laws of one road driven, and of the roads in turn. Assumes nothing.
+use mathlib.Core.Path.{_≡_, refl, sym, ap, _∙_, subst}
+use mathlib.Core.Bool.{Bool, true, false}
+use mathlib.Core.List.{List, [], _∷_, _++_}
+use Prim.Native.Nat.{ℕ, _+_, _-_, _≤_, _<_, min}
+use native.Mathlib.Omega.{arith}
+use borrow.Author.Tests.{leb-true, leb-false, le-leb, lt-leb}
+use lib.Dec.{leb}
+use Rattle.numbers.specs.Signed.{draw, gain}
+use Rattle.battery.specs.Rule.{drivable}
+use Rattle.battery.specs.Drive.{driven, drive, driveAll, andThen, pickDrove}
+use Rattle.battery.specs.declared.Road.{Road}
+use Rattle.battery.specs.declared.Van.{Van}
+use Rattle.battery.specs.declared.Drove.{Drove}
+use Rattle.battery.specs.declared.Drove.the-variants.{On, TooLow}
+use Rattle.battery.proofs.Rule.{left-is, drivable-is}
+
+-- w comes of v by the road r, in naturals
+pub record Went (v : Van) (r : Road) (w : Van) : Type 0 where
+  pub enough : draw (r .consumption) ≤ v .charge
+  pub battery-is : w .battery ≡ v .battery
+  pub charge-is : w .charge ≡ min (v .charge - draw (r .consumption) + gain (r .consumption)) (v .battery)
+  pub drawn-is : w .drawn ≡ v .drawn + draw (r .consumption)
+  pub recovered-is : w .recovered ≡ v .recovered + gain (r .consumption)
+  pub spilled-is : w .spilled ≡ v .spilled + (v .charge - draw (r .consumption) + gain (r .consumption) - v .battery)
+
+-- what a drive of one road comes to
+pub data Driving (v : Van) (r : Road) : Drove → Type 0 where
+  on : {w : Van} → Went v r w → Driving v r (On w)
+  low : v .charge < draw (r .consumption) → Driving v r TooLow
+
+driven-went : (v : Van) (r : Road) → draw (r .consumption) ≤ v .charge → Went v r (driven v r)
+unfolding driven
+driven-went v r h =
+    let e = left-is (v .charge) (r .consumption) in
+    record {
+      enough = h;
+      battery-is = refl;
+      charge-is = omega arith;
+      drawn-is = refl;
+      recovered-is = refl;
+      spilled-is = omega arith;
+    }
+
+by-test : (v : Van) (r : Road) (t : Bool) → leb (draw (r .consumption)) (v .charge) ≡ t
+    → Driving v r (pickDrove t (On (driven v r)) TooLow)
+by-test v r true e = on (driven-went v r (leb-true _ _ e))
+by-test v r false e = low (leb-false _ _ e)
+
+pub driving : (v : Van) (r : Road) → Driving v r (drive v r)
+unfolding drive
+driving v r = by-test v r (drivable (v .charge) (r .consumption)) (sym (drivable-is (v .charge) (r .consumption)))
+
+pub went : (v : Van) (r : Road) {w : Van} → drive v r ≡ On w → Went v r w
+went v r {w} e = go (subst (Driving v r) e (driving v r))
+  where
+    go : Driving v r (On w) → Went v r w
+    go (on g) = g
+
+pub goes : (v : Van) (r : Road) → draw (r .consumption) ≤ v .charge → drive v r ≡ On (driven v r)
+unfolding drive
+goes v r h = simp (drivable-is (v .charge) (r .consumption), le-leb _ _ h)
+
+pub stays : (v : Van) (r : Road) → v .charge < draw (r .consumption) → drive v r ≡ TooLow
+unfolding drive
+stays v r h = simp (drivable-is (v .charge) (r .consumption), lt-leb _ _ h)
+
+-- ---- the roads in turn
+
+pub drive-all-on : (v : Van) (r : Road) (rs : List Road) {w : Van} → drive v r ≡ On w → driveAll v (r ∷ rs) ≡ driveAll w rs
+unfolding driveAll
+drive-all-on v r rs e = ap (λ (d : Drove). andThen d (λ w. driveAll w rs)) e
+
+pub drive-all-low : (v : Van) (r : Road) (rs : List Road) → drive v r ≡ TooLow → driveAll v (r ∷ rs) ≡ TooLow
+unfolding driveAll
+drive-all-low v r rs e = ap (λ (d : Drove). andThen d (λ w. driveAll w rs)) e
+
+-- a property that every road keeps holds at the end
+pub along : (P : Van → Type 0) → ((v w : Van) (r : Road) → Went v r w → P v → P w)
+    → (v : Van) (rs : List Road) {w : Van} → driveAll v rs ≡ On w → P v → P w
+unfolding driveAll
+along P k v [] {w} e p = let q : v ≡ w = cc in subst P q p
+along P k v (r ∷ rs) {w} e p = go (drive v r) (driving v r) e (λ u h g. along P k u rs h (k v u r g p))
+  where
+    go : (d : Drove) → Driving v r d → andThen d (λ u. driveAll u rs) ≡ On w
+        → ((u : Van) → driveAll u rs ≡ On w → Went v r u → P w) → P w
+    go (On u) (on g) h f = f u h g
+    go TooLow (low l) h f = let z : _≡_ {A = ℕ} 0 1 = cc in absurd (omega arith)

@@ -1,0 +1,61 @@
+-- The drive is monotone in the start charge and in the battery size, and on one fixed route the arrival rises by at most the
+-- larger of the two increases. Assumes nothing.
+use mathlib.Core.Path.{_≡_, refl, subst}
+use mathlib.Core.List.{List, [], _∷_}
+use Prim.Native.Nat.{ℕ, _+_, _-_, _≤_, _<_, max}
+use native.Mathlib.Omega.{arith}
+use Rattle.numbers.specs.Signed.{draw}
+use Rattle.battery.specs.Drive.{fresh, drive, driveAll, andThen}
+use Rattle.battery.specs.declared.Road.{Road}
+use Rattle.battery.specs.declared.Van.{Van}
+use Rattle.battery.specs.declared.Drove.{Drove}
+use Rattle.battery.specs.declared.Drove.the-variants.{On, TooLow}
+use Rattle.battery.proofs.Drive.{Went, Driving, on, low, driving}
+
+-- w has no smaller battery and no less charge than v, and neither by more than d
+record Ahead (d : ℕ) (v w : Van) : Type 0 where
+  pub battery-le : v .battery ≤ w .battery
+  pub battery-by : w .battery ≤ v .battery + d
+  pub charge-le : v .charge ≤ w .charge
+  pub charge-by : w .charge ≤ v .charge + d
+
+-- a drive that arrives, ahead of `end`
+record Follows (d : ℕ) (end : Van) (came : Drove) : Type 0 where
+  pub van : Van
+  pub drives : came ≡ On van
+  pub ahead : Ahead d end van
+
+one-road : (d : ℕ) (v w : Van) (r : Road) (v' w' : Van) → Ahead d v w → Went v r v' → Went w r w' → Ahead d v' w'
+one-road d v w r v' w' a g h =
+    record { battery-le = omega arith; battery-by = omega arith; charge-le = omega arith; charge-by = omega arith }
+
+follows : (d : ℕ) (v w : Van) (rs : List Road) {end : Van} → Ahead d v w → driveAll v rs ≡ On end
+    → Follows d end (driveAll w rs)
+unfolding driveAll
+follows d v w [] {end} a e =
+    let q : v ≡ end = cc in
+    record { van = w; drives = refl; ahead = subst (λ (u : Van). Ahead d u w) q a }
+follows d v w (r ∷ rs) {end} a e = go (drive v r) (drive w r) (driving v r) (driving w r) e (λ x y b h. follows d x y rs b h)
+  where
+    go : (f g : Drove) → Driving v r f → Driving w r g → andThen f (λ u. driveAll u rs) ≡ On end
+        → ((x y : Van) → Ahead d x y → driveAll x rs ≡ On end → Follows d end (driveAll y rs))
+        → Follows d end (andThen g (λ u. driveAll u rs))
+    go (On x) (On y) (on p) (on q) h k = k x y (one-road d v w r x y a p q) h
+    go (On x) TooLow (on p) (low q) h k = let b = p .enough in let c = a .charge-le in absurd (omega arith)
+    go TooLow g (low p) q h k = let z : _≡_ {A = ℕ} 0 1 = cc in absurd (omega arith)
+
+-- a route that can be driven, driven again with a battery and a start that are no lower
+pub record Rises (M M' b b' : ℕ) (rs : List Road) (end : Van) : Type 0 where
+  pub van : Van
+  pub drives : driveAll (fresh M' b') rs ≡ On van
+  pub no-less : end .charge ≤ van .charge
+  pub at-most : van .charge ≤ end .charge + max (M' - M) (b' - b)
+
+pub fixed-route : (M M' b b' : ℕ) (rs : List Road) {end : Van} → M ≤ M' → b ≤ b' → driveAll (fresh M b) rs ≡ On end
+    → Rises M M' b b' rs end
+fixed-route M M' b b' rs m s e =
+    let d = max (M' - M) (b' - b) in
+    let start : Ahead d (fresh M b) (fresh M' b') =
+    record { battery-le = m; battery-by = omega arith; charge-le = s; charge-by = omega arith } in
+    let f = follows d (fresh M b) (fresh M' b') rs start e in
+    record { van = f .van; drives = f .drives; no-less = f .ahead .charge-le; at-most = f .ahead .charge-by }

@@ -1,0 +1,4 @@
+pub mod Rule
+pub mod Drive
+pub mod Profile
+pub mod Ready

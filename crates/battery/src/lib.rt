@@ -1,0 +1,98 @@
+// The battery rule: a van and a road give the next van. Charges and consumptions are in mWh.
+ghost use mathlib.Core.Path.{_≡_};
+ghost use Prim.Native.Nat.{_-_};
+ghost use Rattle.battery.specs.Drive.{fresh, drive};
+ghost use Rattle.battery.specs.Profile.{noRoads};
+ghost use Rattle.battery.specs.Ready.{Ready};
+
+// A road as its record has it.
+pub struct Road {
+    pub tail: u16,
+    pub head: u16,
+    pub consumption: i32,
+}
+
+// A van on its way: the size of its battery, its charge, and the totals of the roads driven so far.
+pub struct Van {
+    pub battery: u32,
+    pub charge: u32,
+    pub drawn: u64,
+    pub recovered: u64,
+    pub spilled: u64,
+}
+
+// What comes of driving a road: the next van, or a charge that is too low.
+pub enum Drove {
+    On(Van),
+    TooLow,
+}
+
+// Of one route, for all start charges: below need it cannot be driven; from need on the arrival is
+// the smaller of top and start - sum.
+pub struct Profile {
+    pub need: u32,
+    pub sum: i64,
+    pub top: u32,
+}
+
+// A route that no charge can drive has no profile.
+pub enum Profiled {
+    Passable(Profile),
+    Impassable,
+}
+
+impl Van {
+    // A van that sets out.
+    pub fn new(battery: u32, start: u32) -> Van
+        ensures { λ r. ⌜ r ≡ fresh battery start ⌝ }
+    {
+        Van {
+            battery,
+            charge: start,
+            drawn: 0,
+            recovered: 0,
+            spilled: 0,
+        }
+    }
+
+    // The van at the head of a road, from the van at its tail.
+    pub fn drive(self, road: Road) -> Drove
+        requires { ⌜ Ready self road ⌝ }
+        ensures { λ r. ⌜ r ≡ drive self road ⌝ }
+    {
+        let takes = numbers::drawn(road.consumption);
+        let gives = numbers::gained(road.consumption);
+        if self.charge < takes {
+            return Drove::TooLow;
+        }
+        let left = self.charge - takes + gives;
+        let over = above(left, self.battery);
+        Drove::On(Van {
+            battery: self.battery,
+            charge: left - over,
+            drawn: self.drawn + takes as u64,
+            recovered: self.recovered + gives as u64,
+            spilled: self.spilled + over as u64,
+        })
+    }
+}
+
+impl Profile {
+    // The route of no roads.
+    pub fn new(battery: u32) -> Profile
+        ensures { λ r. ⌜ r ≡ noRoads battery ⌝ }
+    {
+        Profile {
+            need: 0,
+            sum: 0,
+            top: battery,
+        }
+    }
+}
+
+// How far x stands above m.
+fn above(x: u32, m: u32) -> u32
+    ensures { λ r. ⌜ r ≡ x - m ⌝ }
+{
+    if m < x { x - m } else { 0 }
+}
