@@ -1,0 +1,66 @@
+-- If all roads pass, no closed walk gains energy. Along a walk from v to w by passing roads, the sum of the consumptions is at
+-- least potential(v) − potential(w). Assumes nothing.
+use mathlib.Core.Path.{_≡_, sym, ap, _∙_}
+use mathlib.Core.Bool.{true}
+use mathlib.Core.List.{List, [], _∷_}
+use Prim.Native.Nat.{ℕ, _+_, _≤_}
+use native.Mathlib.Omega.{arith}
+use borrow.Author.Tests.{leb-true, le-leb}
+use lib.Dec.{leb}
+use lib.IntN.{ℤ, pos}
+use lib.Signed.{leZ}
+use Rattle.numbers.proofs.Diff.{Diff, diff-self, diff-pos, diff-add, diff-minus, diff-leZ, leb-same}
+use Rattle.numbers.specs.Signed.{draw, gain}
+use Rattle.battery.specs.declared.Road.{Road}
+use Rattle.network.specs.Check.{recordsFault}
+use Rattle.network.specs.Files.{roadOf, potential, passes, Passing}
+use Rattle.network.specs.Walks.{Walk, stay, go, roadsOf, sumOf}
+use Rattle.network.specs.declared.Checked.the-variants.{Passed}
+use Rattle.network.proofs.Records.{all-sound}
+
+-- a road that passes, in naturals
+pub passes-draws : (c p q : ℤ) → passes c p q ≡ leb (gain c + draw p + gain q) (draw c + gain p + draw q)
+passes-draws c p q =
+    diff-leZ (diff-pos 0) (diff-add (diff-minus (diff-self c) (diff-self p)) (diff-self q))
+    ∙ leb-same
+    (0 + (gain c + draw p + gain q)) (draw c + gain p + draw q + 0)
+    (gain c + draw p + gain q) (draw c + gain p + draw q)
+    (λ h. omega arith) (λ h. omega arith)
+
+-- what the roads take and what they give
+draws : List Road → ℕ
+draws [] = 0
+draws (r ∷ rs) = draw (r .consumption) + draws rs
+
+gains : List Road → ℕ
+gains [] = 0
+gains (r ∷ rs) = gain (r .consumption) + gains rs
+
+sum-is : (rs : List Road) → Diff (sumOf rs) (draws rs) (gains rs)
+unfolding draws gains
+sum-is [] = diff-pos 0
+sum-is (r ∷ rs) = diff-add (diff-self (r .consumption)) (sum-is rs)
+
+along : {ns rs : List ℕ} {v w : ℕ} {ks : List ℕ} → Passing ns rs → Walk rs v ks w
+    → gains (roadsOf rs ks) + draw (potential ns v) + gain (potential ns w) ≤ draws (roadsOf rs ks) + gain (potential ns v) + draw (potential ns w)
+unfolding draws gains
+along {ns} {rs} a stay = omega arith
+along {ns} {rs} {v} a (go k h e t) =
+    let r = roadOf rs k in
+    let ih = along a t in
+    let p : gain (r .consumption) + draw (potential ns (r .tail)) + gain (potential ns (r .head)) ≤ draw (r .consumption) + gain (potential ns (r .tail)) + draw (potential ns (r .head))
+    = leb-true _ _ (sym (passes-draws (r .consumption) (potential ns (r .tail)) (potential ns (r .head))) ∙ a .pass k h) in
+    let d : draw (potential ns (r .tail)) ≡ draw (potential ns v) = ap (λ (u : ℕ). draw (potential ns u)) e in
+    let g : gain (potential ns (r .tail)) ≡ gain (potential ns v) = ap (λ (u : ℕ). gain (potential ns u)) e in
+    omega arith
+
+-- the sum of the consumptions of a closed walk is 0 or more
+pub no-gain : {ns rs : List ℕ} {v : ℕ} {ks : List ℕ} → Passing ns rs → Walk rs v ks v → leZ (pos 0) (sumOf (roadsOf rs ks)) ≡ true
+no-gain {ns} {rs} {v} {ks} a w =
+    let h = along a w in
+    diff-leZ (diff-pos 0) (sum-is (roadsOf rs ks))
+    ∙ le-leb (0 + gains (roadsOf rs ks)) (draws (roadsOf rs ks) + 0) (omega arith)
+
+-- so a network that passes the check has none
+pub checked-no-gain : (ns rs : List ℕ) {v : ℕ} {ks : List ℕ} → recordsFault ns rs ≡ Passed → Walk rs v ks v → leZ (pos 0) (sumOf (roadsOf rs ks)) ≡ true
+checked-no-gain ns rs e w = no-gain {ns = ns} (record { pass = λ k h. all-sound ns rs e k h .passing }) w

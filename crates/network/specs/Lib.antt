@@ -1,0 +1,4 @@
+pub mod Files
+pub mod Refusals
+pub mod Check
+pub mod Walks

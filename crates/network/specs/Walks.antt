@@ -1,0 +1,29 @@
+-- Walks over the road records of a file. rs is the road file, a road is named by its record number.
+use mathlib.Core.Path.{_≡_}
+use mathlib.Core.List.{List, [], _∷_, map}
+use Prim.Native.Nat.{ℕ, _<_}
+use lib.IntN.{ℤ, pos, _+ℤ_}
+use Rattle.battery.specs.Drive.{fresh, driveAll}
+use Rattle.battery.specs.declared.Road.{Road}
+use Rattle.battery.specs.declared.Van.{Van}
+use Rattle.battery.specs.declared.Drove.the-variants.{On}
+use Rattle.network.specs.Files.{roadCount, roadOf}
+
+-- a walk from junction v to junction w by the roads ks
+pub data Walk (rs : List ℕ) : ℕ → List ℕ → ℕ → Type 0 where
+  stay : {v : ℕ} → Walk rs v [] v
+  go : {v w : ℕ} {ks : List ℕ} (k : ℕ) → k < roadCount rs → roadOf rs k .tail ≡ v → Walk rs (roadOf rs k .head) ks w → Walk rs v (k ∷ ks) w
+
+-- the roads that road numbers name
+abbrev pub roadsOf : List ℕ → List ℕ → List Road
+roadsOf rs ks = map (roadOf rs) ks
+
+-- the rule can be applied at each road in turn, with battery size M and start charge b
+pub record Feasible (M b : ℕ) (rs ks : List ℕ) : Type 0 where
+  pub van : Van
+  pub drives : driveAll (fresh M b) (roadsOf rs ks) ≡ On van
+
+-- the sum of the consumptions
+abbrev pub sumOf : List Road → ℤ
+sumOf [] = pos 0
+sumOf (r ∷ rs) = r .consumption +ℤ sumOf rs
