@@ -24,6 +24,11 @@ abbrev pub firstOf : List Checked → Checked
 firstOf [] = Passed
 firstOf (c ∷ cs) = first c (firstOf cs)
 
+-- the first fault of n places from place k on
+unfoldable pub firstFrom : (ℕ → Checked) → ℕ → ℕ → Checked
+firstFrom f zero k = Passed
+firstFrom f (suc n) k = first (f k) (firstFrom f n (k + 1))
+
 -- record k, tested for 7, 8, 9
 unfoldable pub recordFault : List ℕ → ℕ → Road → Checked
 recordFault ns k r =
@@ -32,14 +37,9 @@ recordFault ns k r =
     unless (inRange (r .consumption)) (Consumption k) ∷
     unless (passes (r .consumption) (potential ns (r .tail)) (potential ns (r .head))) (Potential k) ∷ [])
 
--- n records from record k on, in file order
-unfoldable pub recordsFrom : List ℕ → List ℕ → ℕ → ℕ → Checked
-recordsFrom ns rs zero k = Passed
-recordsFrom ns rs (suc n) k = first (recordFault ns k (roadOf rs k)) (recordsFrom ns rs n (k + 1))
-
 -- all records in file order; the first that fails stops the check
 abbrev pub recordsFault : List ℕ → List ℕ → Checked
-recordsFault ns rs = recordsFrom ns rs (roadCount rs) 0
+recordsFault ns rs = firstFrom (λ k. recordFault ns k (roadOf rs k)) (roadCount rs) 0
 
 -- network check: 1, 2, then the records
 unfoldable pub checkFault : List ℕ → List ℕ → Checked

@@ -1,0 +1,61 @@
+-- Laws of the order of refusals: the first fault of two, and of the places from k on. Assumes nothing.
+use mathlib.Core.Path.{_≡_, refl, ap, _∙_}
+use mathlib.Core.Bool.{Bool, true, false, _&&_}
+use Prim.Native.Nat.{ℕ, zero, suc, _+_, _-_, _≤_, _<_}
+use native.Mathlib.Omega.{arith}
+use native.Mathlib.Decide.{ℕ-discrete}
+use Rattle.network.specs.Check.{unless, first, firstFrom}
+use Rattle.network.specs.declared.Refusal.{Refusal}
+use Rattle.network.specs.declared.Checked.{Checked}
+use Rattle.network.specs.declared.Checked.the-variants.{Passed, Refused}
+
+-- the last of a list of tests
+pub first-end : (a : Checked) → first a Passed ≡ a
+first-end Passed = refl
+first-end (Refused r) = refl
+
+-- ---- what a passed test tells
+
+pub first-passed : (a b : Checked) → first a b ≡ Passed → (a ≡ Passed) × (b ≡ Passed)
+first-passed Passed b e = (refl, e)
+first-passed (Refused r) b e = let z : _≡_ {A = ℕ} 0 1 = cc in absurd (omega arith)
+
+pub unless-passed : (t : Bool) (r : Refusal) → unless t r ≡ Passed → t ≡ true
+unless-passed true r e = refl
+unless-passed false r e = let z : _≡_ {A = ℕ} 0 1 = cc in absurd (omega arith)
+
+pub both-true : (a b : Bool) → (a && b) ≡ true → (a ≡ true) × (b ≡ true)
+both-true true b e = (refl, e)
+both-true false b e = let z : _≡_ {A = ℕ} 0 1 = cc in absurd (omega arith)
+
+-- ---- from place k on, of n
+
+module _ (f : ℕ → Checked) (n k : ℕ) where
+  turn : k < n → firstFrom f (n - k) k ≡ first (f k) (firstFrom f (n - (k + 1)) (k + 1))
+  unfolding firstFrom
+  turn h = let p : n - k ≡ suc (n - (k + 1)) = omega arith in ap (λ (m : ℕ). firstFrom f m k) p
+
+  pub from-go : k < n → f k ≡ Passed → firstFrom f (n - k) k ≡ firstFrom f (n - (k + 1)) (k + 1)
+  from-go h e = turn h ∙ simp e
+
+  pub from-stop : (r : Refusal) → k < n → f k ≡ Refused r → firstFrom f (n - k) k ≡ Refused r
+  from-stop r h e = turn h ∙ simp e
+
+  pub from-end : n ≤ k → firstFrom f (n - k) k ≡ Passed
+  unfolding firstFrom
+  from-end h = let p : n - k ≡ 0 = omega arith in ap (λ (m : ℕ). firstFrom f m k) p
+
+from-passed : (f : ℕ → Checked) (n j k : ℕ) → firstFrom f n j ≡ Passed → j ≤ k → k < j + n → f k ≡ Passed
+unfolding firstFrom
+from-passed f zero j k e h l = absurd (omega arith)
+from-passed f (suc n) j k e h l =
+    let a = first-passed _ _ e in
+    go (a .0) (λ g. from-passed f n (j + 1) k (a .1) g (omega arith)) (ℕ-discrete j k)
+  where
+    go : f j ≡ Passed → (j + 1 ≤ k → f k ≡ Passed) → Dec (j ≡ k) → f k ≡ Passed
+    go p more (yes q) = rw q at p
+    go p more (no q) = more (omega arith)
+
+-- where no place fails, each passes
+pub all-passed : (f : ℕ → Checked) (n : ℕ) → firstFrom f n 0 ≡ Passed → (k : ℕ) → k < n → f k ≡ Passed
+all-passed f n e k h = from-passed f n 0 k e (omega arith) (omega arith)
