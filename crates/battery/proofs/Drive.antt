@@ -75,6 +75,27 @@ pub drive-all-low : (v : Van) (r : Road) (rs : List Road) → drive v r ≡ TooL
 unfolding driveAll
 drive-all-low v r rs e = ap (λ (d : Drove). andThen d (λ w. driveAll w rs)) e
 
+-- the roads of one list and then of another
+pub drive-all-append : (v : Van) (rs qs : List Road) → driveAll v (rs ++ qs) ≡ andThen (driveAll v rs) (λ w. driveAll w qs)
+unfolding driveAll
+drive-all-append v [] qs = refl
+drive-all-append v (r ∷ rs) qs = go (drive v r) (λ w. drive-all-append w rs qs)
+  where
+    go : (d : Drove) → ((w : Van) → driveAll w (rs ++ qs) ≡ andThen (driveAll w rs) (λ u. driveAll u qs))
+        → andThen d (λ w. driveAll w (rs ++ qs)) ≡ andThen (andThen d (λ w. driveAll w rs)) (λ u. driveAll u qs)
+    go (On w) k = k w
+    go TooLow k = refl
+
+-- one road more
+pub drive-all-snoc : (v : Van) (rs : List Road) (r : Road) {w : Van} → driveAll v rs ≡ On w → driveAll v (rs ++ (r ∷ [])) ≡ drive w r
+unfolding driveAll
+drive-all-snoc v rs r {w} e =
+    drive-all-append v rs (r ∷ []) ∙ ap (λ (d : Drove). andThen d (λ u. driveAll u (r ∷ []))) e ∙ last (drive w r)
+  where
+    last : (d : Drove) → andThen d (λ u. On u) ≡ d
+    last (On u) = refl
+    last TooLow = refl
+
 -- a property that every road keeps holds at the end
 pub along : (P : Van → Type 0) → ((v w : Van) (r : Road) → Went v r w → P v → P w)
     → (v : Van) (rs : List Road) {w : Van} → driveAll v rs ≡ On w → P v → P w

@@ -1,0 +1,54 @@
+-- The faults of a given route, place by place. rs is the road file, es the route: road numbers.
+use mathlib.Core.List.{List, [], _∷_}
+use Prim.Native.Nat.{ℕ, zero, suc, _+_}
+use lib.Dec.{ltb, eqb}
+use lib.ListN.{length, getD, take}
+use Rattle.battery.specs.Drive.{driveAll}
+use Rattle.battery.specs.declared.Road.{Road}
+use Rattle.battery.specs.declared.Van.{Van}
+use Rattle.battery.specs.declared.Drove.{Drove}
+use Rattle.battery.specs.declared.Drove.the-variants.{On, TooLow}
+use Rattle.network.specs.Check.{unless, firstOf, firstFrom}
+use Rattle.network.specs.Files.{roadCount, roadOf}
+use Rattle.network.specs.Walks.{roadsOf}
+use Rattle.network.specs.declared.Refusal.the-variants as refusal
+use Rattle.network.specs.declared.Checked.{Checked}
+use Rattle.network.specs.declared.Checked.the-variants.{Passed, Refused}
+
+-- the most entries of a given route
+abbrev pub mostEntries : ℕ
+mostEntries = 8192
+
+-- the entry at place i
+abbrev pub entryAt : List ℕ → ℕ → ℕ
+entryAt es i = getD es i 0
+
+-- the junction where the van stands before place i
+abbrev pub standsAt : List ℕ → ℕ → List ℕ → ℕ → ℕ
+standsAt rs source es zero = source
+standsAt rs source es (suc i) = roadOf rs (entryAt es i) .head
+
+-- the route up to and with the road at place i
+abbrev pub upTo : List ℕ → List ℕ → ℕ → List Road
+upTo rs es i = roadsOf rs (take (i + 1) es)
+
+-- place i: 12, 13, and then what `last` tells
+unfoldable pub placeFault : List ℕ → ℕ → List ℕ → ℕ → Checked → Checked
+placeFault rs source es i last =
+    firstOf
+    (unless (ltb (entryAt es i) (roadCount rs)) (refusal.NotRoad i) ∷
+    unless (eqb (roadOf rs (entryAt es i) .tail) (standsAt rs source es i)) (refusal.NotHere i) ∷
+    last ∷ [])
+
+-- the whole route: 12, 13 and what `last` tells, at each place before the next
+abbrev pub routeFault : List ℕ → ℕ → List ℕ → (ℕ → Checked) → Checked
+routeFault rs source es last = firstFrom (λ i. placeFault rs source es i (last i)) (length es) 0
+
+-- 14: charge is too low for the road
+abbrev pub lowFault : ℕ → Drove → Checked
+lowFault i (On v) = Passed
+lowFault i TooLow = Refused (refusal.TooLow i)
+
+-- the drive by the van v from the junction source: 12, 13, 14
+abbrev pub driveFaults : List ℕ → ℕ → List ℕ → Van → Checked
+driveFaults rs source es v = routeFault rs source es (λ i. lowFault i (driveAll v (upTo rs es i)))

@@ -1,0 +1,86 @@
+// A given route, place by place: driven, and profiled for all start charges.
+ghost use mathlib.Core.Path.{_≡_};
+ghost use Prim.Native.Nat.{_<_};
+ghost use Rattle.routes.specs.Steps.{enters, drivePlace, DriveAsks, PlaceAsks, DriveKeeps};
+use battery::Drove;
+use battery::Road;
+use battery::Van;
+use network::Refusal;
+
+// The most entries of a given route.
+pub const MOST_ENTRIES: usize = 8192;
+
+// What a drive comes to: the van that arrived, or the first fault.
+pub enum Driven {
+    Arrived(Van),
+    Refused(Refusal),
+}
+
+// The road at a place of the route, or why the van cannot enter it.
+pub enum Entered {
+    Road(Road),
+    Refused(Refusal),
+}
+
+// The junction and the van beyond a place of the route, or the fault there.
+pub enum DriveStep {
+    On(usize, Van),
+    Refused(Refusal),
+}
+
+// The route driven by `start` from the junction `source`: 12, 13, 14 at each place.
+pub fn drive_route(roads: &[u8], route: &[u16], source: usize, start: Van) -> Driven
+    requires { ⌜ DriveAsks (now roads) (now route) start ⌝ }
+    ensures { λ r. ⌜ DriveKeeps (now (roads .entry)) (now (route .entry)) source start r ⌝ }
+{
+    let mut at = source;
+    let mut van = start;
+    let mut i = 0;
+    loop {
+        if route.len() <= i {
+            break Driven::Arrived(van);
+        }
+        let step = drive_place(roads, route[i], i, at, van);
+        match step {
+            DriveStep::Refused(r) => break Driven::Refused(r),
+            DriveStep::On(head, next) => {
+                at = head;
+                van = next;
+                i += 1;
+            }
+        }
+    }
+}
+
+// Place i, where the van stands at the junction `at`: 12, 13, 14.
+fn drive_place(roads: &[u8], entry: u16, i: usize, at: usize, van: Van) -> DriveStep
+    requires { ⌜ PlaceAsks (now roads) i van ⌝ }
+    ensures { λ r. ⌜ r ≡ drivePlace (now (roads .entry)) entry i at van ⌝ }
+{
+    let entered = enter(roads, entry, i, at);
+    match entered {
+        Entered::Refused(r) => DriveStep::Refused(r),
+        Entered::Road(road) => {
+            let drove = van.drive(road);
+            match drove {
+                Drove::TooLow => DriveStep::Refused(Refusal::TooLow(i)),
+                Drove::On(next) => DriveStep::On(road.head as usize, next),
+            }
+        }
+    }
+}
+
+// The road that the entry of place i names, from the junction `at`: 12, 13.
+fn enter(roads: &[u8], entry: u16, i: usize, at: usize) -> Entered
+    ensures { λ r. ⌜ r ≡ enters (now (roads .entry)) entry i at ⌝ }
+{
+    let k = entry as usize;
+    if roads.len() / network::ROAD_BYTES <= k {
+        return Entered::Refused(Refusal::NotRoad(i));
+    }
+    let road = network::road_at(roads, k);
+    if road.tail as usize != at {
+        return Entered::Refused(Refusal::NotHere(i));
+    }
+    Entered::Road(road)
+}
