@@ -2,3 +2,8 @@ pub mod Rule
 pub mod Drive
 pub mod Balance
 pub mod Monotone
+pub mod Join
+pub mod Next
+pub mod Compose
+pub mod Arrive
+pub mod Agree

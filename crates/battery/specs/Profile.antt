@@ -8,12 +8,12 @@ use Rattle.numbers.specs.Signed.{draw}
 use Rattle.battery.specs.Rule.{drivable, left}
 use Rattle.battery.specs.declared.Road.{Road}
 use Rattle.battery.specs.declared.Profile.{Profile}
-use Rattle.battery.specs.declared.Profiled.{Profiled}
-use Rattle.battery.specs.declared.Profiled.the-variants.{Passable, Impassable}
+use Rattle.battery.specs.declared.Passage.{Passage}
+use Rattle.battery.specs.declared.Passage.the-variants.{Passable, Impassable}
 
-abbrev pub pickProfiled : Bool → Profiled → Profiled → Profiled
-pickProfiled true a b = a
-pickProfiled false a b = b
+abbrev pub pickPassage : Bool → Passage → Passage → Passage
+pickPassage true a b = a
+pickPassage false a b = b
 
 -- no roads: need 0, sum 0, top M
 abbrev pub noRoads : ℕ → Profile
@@ -29,8 +29,8 @@ roadProfile M r =
     }
 
 -- a road with c > M is impassable
-unfoldable pub oneRoad : ℕ → Road → Profiled
-oneRoad M r = pickProfiled (drivable M (r .consumption)) (Passable (roadProfile M r)) Impassable
+unfoldable pub oneRoad : ℕ → Road → Passage
+oneRoad M r = pickPassage (drivable M (r .consumption)) (Passable (roadProfile M r)) Impassable
 
 -- P followed by Q: need is the larger of need of P and need of Q + sum of P; sum is added; top is the smaller of top of Q
 -- and top of P − sum of Q
@@ -43,12 +43,12 @@ joined p q =
     }
 
 -- impassable where top of P < need of Q, and where P or Q is
-unfoldable pub followedBy : Profiled → Profiled → Profiled
-followedBy (Passable p) (Passable q) = pickProfiled (leb (q .need) (p .top)) (Passable (joined p q)) Impassable
+unfoldable pub followedBy : Passage → Passage → Passage
+followedBy (Passable p) (Passable q) = pickPassage (leb (q .need) (p .top)) (Passable (joined p q)) Impassable
 followedBy (Passable p) Impassable = Impassable
 followedBy Impassable q = Impassable
 
 -- a route: its first road followed by the rest
-unfoldable pub profileOf : ℕ → List Road → Profiled
+unfoldable pub profileOf : ℕ → List Road → Passage
 profileOf M [] = Passable (noRoads M)
 profileOf M (r ∷ rs) = followedBy (oneRoad M r) (profileOf M rs)

@@ -1,9 +1,11 @@
 // The battery rule: a van and a road give the next van. Charges and consumptions are in mWh.
 ghost use mathlib.Core.Path.{_≡_};
-ghost use Prim.Native.Nat.{_-_};
+ghost use Prim.Native.Nat.{_-_, _≤_, max};
+ghost use Rattle.numbers.specs.Signed.{draw};
 ghost use Rattle.battery.specs.Drive.{fresh, drive};
-ghost use Rattle.battery.specs.Profile.{noRoads};
-ghost use Rattle.battery.specs.Ready.{Ready};
+ghost use Rattle.battery.specs.Profile.{noRoads, followedBy, oneRoad};
+ghost use Rattle.battery.specs.declared.Passage.the-variants.{Passable};
+ghost use Rattle.battery.specs.Ready.{most, Ready, Extends};
 
 // A road as its record has it.
 pub struct Road {
@@ -36,7 +38,7 @@ pub struct Profile {
 }
 
 // A route that no charge can drive has no profile.
-pub enum Profiled {
+pub enum Passage {
     Passable(Profile),
     Impassable,
 }
@@ -87,6 +89,38 @@ impl Profile {
             sum: 0,
             top: battery,
         }
+    }
+
+    // This route with one road more.
+    pub fn then(self, battery: u32, road: Road) -> Passage
+        requires { ⌜ Extends battery self road ⌝ }
+        ensures { λ r. ⌜ r ≡ followedBy (Passable self) (oneRoad battery road) ⌝ }
+    {
+        let takes = numbers::drawn(road.consumption);
+        let gives = numbers::gained(road.consumption);
+        if self.top < takes {
+            return Passage::Impassable;
+        }
+        let left = self.top - takes + gives;
+        // the least start that leaves what the road takes
+        let reach = self.sum + takes as i64;
+        Passage::Passable(Profile {
+            need: larger(self.need, reach),
+            sum: self.sum + road.consumption as i64,
+            top: left - above(left, battery),
+        })
+    }
+}
+
+// The larger of need and reach, which may be negative.
+fn larger(need: u32, reach: i64) -> u32
+    requires { ⌜ draw reach ≤ most ⌝ }
+    ensures { λ r. ⌜ r ≡ max need (draw reach) ⌝ }
+{
+    if (need as i64) < reach {
+        reach as u32
+    } else {
+        need
     }
 }
 

@@ -1,0 +1,117 @@
+-- A profile agrees with the drive from every start b: one road, one route followed by another, and so the roads in turn.
+-- Assumes nothing.
+use mathlib.Core.Path.{_≡_, refl, sym, ap, _∙_}
+use mathlib.Core.Bool.{Bool, true, false}
+use mathlib.Core.List.{List, [], _∷_}
+use Prim.Native.Nat.{ℕ, _+_, _≤_, _<_, min}
+use native.Mathlib.Omega.{arith}
+use borrow.Author.Tests.{leb-true, le-leb}
+use lib.Dec.{leb}
+use lib.IntN.{pos}
+use Rattle.numbers.specs.Signed.{draw, gain}
+use Rattle.battery.specs.Rule.{drivable, left}
+use Rattle.battery.specs.Drive.{drive, driveAll, andThen}
+use Rattle.battery.specs.Profile.{noRoads, roadProfile, oneRoad, joined, followedBy, profileOf, pickPassage}
+use Rattle.battery.specs.declared.Road.{Road}
+use Rattle.battery.specs.declared.Van.{Van}
+use Rattle.battery.specs.declared.Drove.{Drove}
+use Rattle.battery.specs.declared.Drove.the-variants.{On, TooLow}
+use Rattle.battery.specs.declared.Profile.{Profile}
+use Rattle.battery.specs.declared.Passage.{Passage}
+use Rattle.battery.specs.declared.Passage.the-variants.{Passable, Impassable}
+use Rattle.battery.proofs.Rule.{left-is, drivable-is}
+use Rattle.battery.proofs.Drive.{Went, Driving, on, low, driving}
+use Rattle.battery.proofs.Join.{Keeps, reach-is, left-min, left-twice, road-top, road-keeps}
+
+-- a profile, and what came of the drive from b
+pub data Agrees (b : ℕ) : Passage → Drove → Type 0 where
+  arrives : {p : Profile} {w : Van} → p .need ≤ b → w .charge ≡ min (p .top) (left b (p .sum))
+      → Agrees b (Passable p) (On w)
+  below : {p : Profile} → b < p .need → Agrees b (Passable p) TooLow
+  never : Agrees b Impassable TooLow
+
+-- ---- one road
+
+road-on : (M : ℕ) (v w : Van) (r : Road) → v .battery ≡ M → v .charge ≤ M → Went v r w
+    → Agrees (v .charge) (oneRoad M r) (On w)
+unfolding oneRoad
+road-on M v w r m h g =
+    let c = r .consumption in
+    let e = (rw m at (g .charge-is)) ∙ sym (road-top M (v .charge) c (g .enough) h) in
+    simp (drivable-is M c, le-leb (draw c) M (omega arith)) (arrives (g .enough) e)
+
+road-low : (M b : ℕ) (r : Road) → b < draw (r .consumption) → Agrees b (oneRoad M r) TooLow
+unfolding oneRoad
+road-low M b r h = go (drivable M (r .consumption))
+  where
+    go : (t : Bool) → Agrees b (pickPassage t (Passable (roadProfile M r)) Impassable) TooLow
+    go true = below h
+    go false = never
+
+-- ---- one route followed by another
+
+followed-low : {b : ℕ} {x : Passage} (y : Passage) → Agrees b x TooLow → Agrees b (followedBy x y) TooLow
+unfolding followedBy
+followed-low {b} (Passable q) (below {p} l) = go (leb (q .need) (p .top))
+  where
+    go : (t : Bool) → Agrees b (pickPassage t (Passable (joined p q)) Impassable) TooLow
+    go true = below {p = joined p q} (omega arith)
+    go false = never
+followed-low Impassable (below l) = never
+followed-low y never = never
+
+-- p is driven from b, and then q from where it arrives
+module _ (b : ℕ) (p q : Profile) (w : Van) (sum-le : draw (p .sum) ≤ b + gain (p .sum)) (enough : p .need ≤ b)
+    (charge-is : w .charge ≡ min (p .top) (left b (p .sum))) where
+  then-low : w .charge < q .need → Agrees b (followedBy (Passable p) (Passable q)) TooLow
+  unfolding followedBy
+  then-low l = go (leb (q .need) (p .top)) refl
+    where
+      go : (t : Bool) → leb (q .need) (p .top) ≡ t
+          → Agrees b (pickPassage t (Passable (joined p q)) Impassable) TooLow
+      go true e =
+          let h = leb-true (q .need) (p .top) e in
+          let n = reach-is (q .need) (p .sum) in
+          let k = left-is b (p .sum) in
+          below {p = joined p q} (omega arith)
+      go false e = never
+
+  then-charge : {a : ℕ} → a ≡ min (q .top) (left (w .charge) (q .sum))
+      → a ≡ min (joined p q .top) (left b (joined p q .sum))
+  then-charge e =
+      let f = ap (λ (x : ℕ). left x (q .sum)) charge-is in
+      let g = left-min (p .top) (left b (p .sum)) (q .sum) in
+      let h = left-twice b (p .sum) (q .sum) sum-le in
+      omega arith
+
+  then-on : {u : Van} → q .need ≤ w .charge → u .charge ≡ min (q .top) (left (w .charge) (q .sum))
+      → Agrees b (followedBy (Passable p) (Passable q)) (On u)
+  unfolding followedBy
+  then-on {u} h e =
+      let n = reach-is (q .need) (p .sum) in
+      let k = left-is b (p .sum) in
+      simp (le-leb (q .need) (p .top) (omega arith)) (arrives {p = joined p q} (omega arith) (then-charge e))
+
+followed-on : (M : ℕ) {b : ℕ} {x y : Passage} {w : Van} {d : Drove}
+    → Keeps M x → Agrees b x (On w) → Agrees (w .charge) y d → Agrees b (followedBy x y) d
+unfolding followedBy
+followed-on M {b} {w} P (arrives {p} h e) (arrives {p = q} k f) = then-on b p q w (omega arith) h e k f
+followed-on M {b} {w} P (arrives {p} h e) (below {p = q} l) = then-low b p q w (omega arith) h e l
+followed-on M P (arrives h e) never = never
+
+-- ---- the roads in turn
+
+pub agree : (M : ℕ) (v : Van) (rs : List Road) → v .battery ≡ M → v .charge ≤ M
+    → Agrees (v .charge) (profileOf M rs) (driveAll v rs)
+unfolding profileOf driveAll
+agree M v [] m h =
+    let e = left-is (v .charge) (pos 0) in
+    arrives {p = noRoads M} {w = v} (omega arith) (omega arith)
+agree M v (r ∷ rs) m h = go (drive v r) (driving v r) (λ w b c. agree M w rs b c)
+  where
+    go : (d : Drove) → Driving v r d
+        → ((w : Van) → w .battery ≡ M → w .charge ≤ M → Agrees (w .charge) (profileOf M rs) (driveAll w rs))
+        → Agrees (v .charge) (followedBy (oneRoad M r) (profileOf M rs)) (andThen d (λ w. driveAll w rs))
+    go (On w) (on g) f =
+        followed-on M (road-keeps M r) (road-on M v w r m h g) (f w (omega arith) (omega arith))
+    go TooLow (low l) f = followed-low (profileOf M rs) (road-low M (v .charge) r l)

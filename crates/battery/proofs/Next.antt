@@ -1,0 +1,90 @@
+-- One road more after a route, as the code computes it, and that its sums fit. Assumes nothing.
+use mathlib.Core.Path.{_≡_, refl, ap}
+use mathlib.Core.Bool.{Bool, true, false}
+use Prim.Native.Nat.{ℕ, _+_, _-_, _≤_, _<_, _^_, min, max}
+use native.Mathlib.Decide.{decLe}
+use native.Mathlib.Omega.{arith}
+use borrow.Author.Tests.{le-leb, lt-leb}
+use lib.IntN.{pos, _+ℤ_, +ℤ-comm}
+use lib.Signed.{mag}
+use mir.Syntax.{w32, w64}
+use mir.Val.{SFits, toZ, ofZ}
+use Rattle.numbers.specs.Signed.{draw, gain}
+use Rattle.numbers.proofs.Diff.{mag-le, mag-plus}
+use Rattle.numbers.proofs.Bits.{back64}
+use Rattle.battery.specs.Rule.{drivable}
+use Rattle.battery.specs.Profile.{roadProfile, oneRoad, joined, followedBy, pickPassage}
+use Rattle.battery.specs.Ready.{Extends, most}
+use Rattle.battery.specs.declared.Road.{Road}
+use Rattle.battery.specs.declared.Profile.{Profile}
+use Rattle.battery.specs.declared.Passage.the-variants.{Passable, Impassable}
+use Rattle.battery.proofs.Rule.{drivable-is}
+use Rattle.battery.proofs.Join.{draw-add, road-top}
+
+abbrev pub next : ℕ → Profile → Road → Profile
+next M p r =
+    record {
+      need = max (p .need) (draw (p .sum +ℤ pos (draw (r .consumption))));
+      sum = p .sum +ℤ r .consumption;
+      top = min (p .top - draw (r .consumption) + gain (r .consumption)) M;
+    }
+
+pub next-low : (M : ℕ) (p : Profile) (r : Road) → p .top < draw (r .consumption)
+    → followedBy (Passable p) (oneRoad M r) ≡ Impassable
+unfolding followedBy oneRoad
+next-low M p r h = go (drivable M (r .consumption))
+  where
+    go : (t : Bool) → followedBy (Passable p) (pickPassage t (Passable (roadProfile M r)) Impassable) ≡ Impassable
+    go true = simp (lt-leb _ _ h)
+    go false = refl
+
+next-joined : (M : ℕ) (p : Profile) (r : Road) → p .top ≤ M → draw (r .consumption) ≤ p .top
+    → joined p (roadProfile M r) ≡ next M p r
+next-joined M p r h k =
+    let c = r .consumption in
+    let e = road-top M (p .top) c k h in
+    λ i. record { need = max (p .need) (draw (+ℤ-comm (pos (draw c)) (p .sum) i)); sum = p .sum +ℤ c; top = e i }
+
+pub next-on : (M : ℕ) (p : Profile) (r : Road) → p .top ≤ M → draw (r .consumption) ≤ p .top
+    → followedBy (Passable p) (oneRoad M r) ≡ Passable (next M p r)
+unfolding followedBy oneRoad
+next-on M p r h k =
+    let c = r .consumption in
+    simp (drivable-is M c, le-leb (draw c) M (omega arith), le-leb (draw c) (p .top) k)
+    (ap Passable (next-joined M p r h k))
+
+-- the sum of a route that goes on
+pub next-sum : (M : ℕ) (p : Profile) (r : Road) {q : Profile} → p .top ≤ M
+    → followedBy (Passable p) (oneRoad M r) ≡ Passable q → q .sum ≡ p .sum +ℤ r .consumption
+next-sum M p r {q} h e = go (decLe (draw (r .consumption)) (p .top))
+  where
+    go : Dec (draw (r .consumption) ≤ p .top) → q .sum ≡ p .sum +ℤ r .consumption
+    go (yes k) = let f : q ≡ next M p r = cc (next-on M p r h k) in ap (λ (x : Profile). x .sum) f
+    go (no k) = let z : _≡_ {A = ℕ} 0 1 = cc (next-low M p r (omega arith)) in absurd (omega arith)
+
+-- ---- what fits, by the bounds of Extends
+
+module _ {M : ℕ} {p : Profile} {r : Road} (E : Extends M p r) where
+  pub used-fits : SFits w32 (r .consumption)
+  used-fits =
+      let h = mag-le (r .consumption) most (E .ranged .draw-le) (E .ranged .gain-le) in
+      record { sfits = omega arith }
+
+  sum-mag : mag (p .sum) < 2 ^ 62 + 1
+  sum-mag = let h = mag-le (p .sum) (2 ^ 62) (omega arith) (omega arith) in omega arith
+
+  pub sum-back : toZ w64 (ofZ w64 (p .sum)) ≡ p .sum
+  sum-back = let h = sum-mag in back64 (omega arith)
+
+  pub sum-fits : SFits w64 (p .sum +ℤ r .consumption)
+  sum-fits =
+      let h = mag-plus (2 ^ 62 + 1) (2 ^ 31) (p .sum) (r .consumption) sum-mag (used-fits .sfits) in
+      record { sfits = omega arith }
+
+  pub reach-fits : SFits w64 (p .sum +ℤ pos (draw (r .consumption)))
+  reach-fits =
+      let h = mag-plus (2 ^ 62 + 1) (2 ^ 31) (p .sum) (pos (draw (r .consumption))) sum-mag (omega arith) in
+      record { sfits = omega arith }
+
+  pub reach-le : draw (r .consumption) ≤ p .top → draw (p .sum +ℤ pos (draw (r .consumption))) ≤ most
+  reach-le k = let e = draw-add (p .sum) (pos (draw (r .consumption))) in omega arith
