@@ -1,2 +1,3 @@
 mod Places
 mod Driving
+mod Profiling

@@ -4,6 +4,9 @@ use Prim.Native.Nat.{ℕ, zero, suc, _+_}
 use lib.Dec.{ltb, eqb}
 use lib.ListN.{length, getD, take}
 use Rattle.battery.specs.Drive.{driveAll}
+use Rattle.battery.specs.Profile.{profileOf}
+use Rattle.battery.specs.declared.Passage.{Passage}
+use Rattle.battery.specs.declared.Passage.the-variants.{Passable, Impassable}
 use Rattle.battery.specs.declared.Road.{Road}
 use Rattle.battery.specs.declared.Van.{Van}
 use Rattle.battery.specs.declared.Drove.{Drove}
@@ -52,3 +55,12 @@ lowFault i TooLow = Refused (refusal.TooLow i)
 -- the drive by the van v from the junction source: 12, 13, 14
 abbrev pub driveFaults : List ℕ → ℕ → List ℕ → Van → Checked
 driveFaults rs source es v = routeFault rs source es (λ i. lowFault i (driveAll v (upTo rs es i)))
+
+-- 15: the route up to and with the road is impassable at every charge
+abbrev pub impassableFault : ℕ → Passage → Checked
+impassableFault i (Passable p) = Passed
+impassableFault i Impassable = Refused (refusal.Impassable i)
+
+-- the profile with a battery of size M: 12, 13, 15
+abbrev pub profileFaults : List ℕ → ℕ → List ℕ → ℕ → Checked
+profileFaults rs source es M = routeFault rs source es (λ i. impassableFault i (profileOf M (upTo rs es i)))

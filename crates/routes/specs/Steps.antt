@@ -5,8 +5,13 @@ use mathlib.Core.List.{List}
 use Prim.Native.Nat.{ℕ, _*_, _≤_, _<_}
 use lib.Dec.{ltb, eqb}
 use lib.ListN.{length}
+use Rattle.numbers.specs.Signed.{draw, gain}
 use Rattle.battery.specs.Drive.{drive, driveAll}
-use Rattle.battery.specs.Ready.{Ranged, most}
+use Rattle.battery.specs.Profile.{followedBy, oneRoad, profileOf}
+use Rattle.battery.specs.Ready.{Ranged, Kept, most}
+use Rattle.battery.specs.declared.Passage.{Passage}
+use Rattle.battery.specs.declared.Passage.the-variants as passage
+use Rattle.battery.specs.declared.Profile.{Profile}
 use Rattle.battery.specs.declared.Road.{Road}
 use Rattle.battery.specs.declared.Van.{Van}
 use Rattle.battery.specs.declared.Drove.{Drove}
@@ -15,13 +20,17 @@ use Rattle.network.specs.Files.{roadCount, roadOf}
 use Rattle.network.specs.Walks.{roadsOf}
 use Rattle.network.specs.declared.Refusal.the-variants as refusal
 use Rattle.network.specs.declared.Checked.the-variants as checked
-use Rattle.routes.specs.Places.{mostEntries, driveFaults}
+use Rattle.routes.specs.Places.{mostEntries, driveFaults, profileFaults}
 use Rattle.routes.specs.declared.Entered.{Entered}
 use Rattle.routes.specs.declared.Entered.the-variants as entered
 use Rattle.routes.specs.declared.DriveStep.{DriveStep}
 use Rattle.routes.specs.declared.DriveStep.the-variants as step
 use Rattle.routes.specs.declared.Driven.{Driven}
 use Rattle.routes.specs.declared.Driven.the-variants as driven
+use Rattle.routes.specs.declared.ProfileStep.{ProfileStep}
+use Rattle.routes.specs.declared.ProfileStep.the-variants as profileStep
+use Rattle.routes.specs.declared.Profiled.{Profiled}
+use Rattle.routes.specs.declared.Profiled.the-variants as profiled
 
 -- every record's consumption lies in its range
 pub record RangedRoads (rs : List ℕ) : Type 0 where
@@ -74,3 +83,38 @@ abbrev pub DriveKeeps : List ℕ → List ℕ → ℕ → Van → Driven → Typ
 DriveKeeps rs es source v (driven.Arrived w) =
     (driveFaults rs source es v ≡ checked.Passed) × (driveAll v (roadsOf rs es) ≡ drove.On w)
 DriveKeeps rs es source v (driven.Refused r) = driveFaults rs source es v ≡ checked.Refused r
+
+-- ---- the profile
+
+-- a profile of i roads, whose sum has room for one more
+pub record Gathered (M i : ℕ) (p : Profile) : Type 0 where
+  pub battery-le : M ≤ most
+  pub kept : Kept M p
+  pub draw-le : draw (p .sum) ≤ i * most
+  pub gain-le : gain (p .sum) ≤ i * most
+
+pub record ExtendAsks (rs : List ℕ) (i M : ℕ) (p : Profile) : Type 0 where
+  pub roads-ranged : RangedRoads rs
+  pub place-lt : i < mostEntries
+  pub gathered : Gathered M i p
+
+abbrev pub onPassage : Passage → Road → ℕ → ProfileStep
+onPassage (passage.Passable p) r i = profileStep.On (r .head) p
+onPassage passage.Impassable r i = profileStep.Refused (refusal.Impassable i)
+
+abbrev pub extendEntered : Entered → ℕ → Profile → ℕ → ProfileStep
+extendEntered (entered.Road r) M p i = onPassage (followedBy (passage.Passable p) (oneRoad M r)) r i
+extendEntered (entered.Refused q) M p i = profileStep.Refused q
+
+unfoldable pub profilePlace : List ℕ → ℕ → ℕ → ℕ → ℕ → Profile → ProfileStep
+profilePlace rs e i at M p = extendEntered (enters rs e i at) M p i
+
+pub record ProfileAsks (rs es : List ℕ) (M : ℕ) : Type 0 where
+  pub roads-ranged : RangedRoads rs
+  pub entries-le : length es ≤ mostEntries
+  pub battery-le : M ≤ most
+
+abbrev pub ProfileKeeps : List ℕ → List ℕ → ℕ → ℕ → Profiled → Type 0
+ProfileKeeps rs es source M (profiled.Known p) =
+    (profileFaults rs source es M ≡ checked.Passed) × (profileOf M (roadsOf rs es) ≡ passage.Passable p)
+ProfileKeeps rs es source M (profiled.Refused r) = profileFaults rs source es M ≡ checked.Refused r

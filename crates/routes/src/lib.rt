@@ -1,8 +1,9 @@
 // A given route, place by place: driven, and profiled for all start charges.
 ghost use mathlib.Core.Path.{_≡_};
-ghost use Prim.Native.Nat.{_<_};
-ghost use Rattle.routes.specs.Steps.{enters, drivePlace, DriveAsks, PlaceAsks, DriveKeeps};
+ghost use Rattle.routes.specs.Steps.{enters, DriveAsks, DriveKeeps, PlaceAsks, drivePlace, ProfileAsks, ProfileKeeps, ExtendAsks, profilePlace};
 use battery::Drove;
+use battery::Passage;
+use battery::Profile;
 use battery::Road;
 use battery::Van;
 use network::Refusal;
@@ -16,6 +17,12 @@ pub enum Driven {
     Refused(Refusal),
 }
 
+// What a profile comes to: the three numbers, or the first fault.
+pub enum Profiled {
+    Known(Profile),
+    Refused(Refusal),
+}
+
 // The road at a place of the route, or why the van cannot enter it.
 pub enum Entered {
     Road(Road),
@@ -25,6 +32,12 @@ pub enum Entered {
 // The junction and the van beyond a place of the route, or the fault there.
 pub enum DriveStep {
     On(usize, Van),
+    Refused(Refusal),
+}
+
+// The junction beyond a place of the route and the profile up to it, or the fault there.
+pub enum ProfileStep {
+    On(usize, Profile),
     Refused(Refusal),
 }
 
@@ -52,6 +65,30 @@ pub fn drive_route(roads: &[u8], route: &[u16], source: usize, start: Van) -> Dr
     }
 }
 
+// The profile of the route from the junction `source`: 12, 13, 15 at each place.
+pub fn profile_route(roads: &[u8], route: &[u16], source: usize, battery: u32) -> Profiled
+    requires { ⌜ ProfileAsks (now roads) (now route) battery ⌝ }
+    ensures { λ r. ⌜ ProfileKeeps (now (roads .entry)) (now (route .entry)) source battery r ⌝ }
+{
+    let mut at = source;
+    let mut profile = Profile::new(battery);
+    let mut i = 0;
+    loop {
+        if route.len() <= i {
+            break Profiled::Known(profile);
+        }
+        let step = profile_place(roads, route[i], i, at, battery, profile);
+        match step {
+            ProfileStep::Refused(r) => break Profiled::Refused(r),
+            ProfileStep::On(head, next) => {
+                at = head;
+                profile = next;
+                i += 1;
+            }
+        }
+    }
+}
+
 // Place i, where the van stands at the junction `at`: 12, 13, 14.
 fn drive_place(roads: &[u8], entry: u16, i: usize, at: usize, van: Van) -> DriveStep
     requires { ⌜ PlaceAsks (now roads) i van ⌝ }
@@ -65,6 +102,31 @@ fn drive_place(roads: &[u8], entry: u16, i: usize, at: usize, van: Van) -> Drive
             match drove {
                 Drove::TooLow => DriveStep::Refused(Refusal::TooLow(i)),
                 Drove::On(next) => DriveStep::On(road.head as usize, next),
+            }
+        }
+    }
+}
+
+// Place i of a route whose profile up to there is `profile`: 12, 13, 15.
+fn profile_place(
+    roads: &[u8],
+    entry: u16,
+    i: usize,
+    at: usize,
+    battery: u32,
+    profile: Profile,
+) -> ProfileStep
+    requires { ⌜ ExtendAsks (now roads) i battery profile ⌝ }
+    ensures { λ r. ⌜ r ≡ profilePlace (now (roads .entry)) entry i at battery profile ⌝ }
+{
+    let entered = enter(roads, entry, i, at);
+    match entered {
+        Entered::Refused(r) => ProfileStep::Refused(r),
+        Entered::Road(road) => {
+            let passage = profile.then(battery, road);
+            match passage {
+                Passage::Impassable => ProfileStep::Refused(Refusal::Impassable(i)),
+                Passage::Passable(next) => ProfileStep::On(road.head as usize, next),
             }
         }
     }

@@ -6,8 +6,6 @@ use native.Mathlib.Omega.{arith}
 use borrow.Author.Needs.{needs}
 use lib.ListN.{length}
 use Rattle.battery.specs.Drive.{driveAll}
-use Rattle.routes.specs.Places.{entryAt}
-use Rattle.routes.specs.Steps.{drivePlace}
 use Rattle.routes.proofs.Driving.{Underway, Then, underway-start, underway-step}
 use Rattle.routes.proofs.Places.{standing-end, all-roads}
 use Rattle.routes.proofs.drive_route.Statement.{statement}
