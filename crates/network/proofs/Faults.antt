@@ -1,10 +1,11 @@
 -- Laws of the order of refusals: the first fault of two, and of the places from k on. Assumes nothing.
 use mathlib.Core.Path.{_≡_, refl, ap, _∙_}
 use mathlib.Core.Bool.{Bool, true, false, _&&_}
+use mathlib.Core.List.{List, [], _∷_, _++_}
 use Prim.Native.Nat.{ℕ, zero, suc, _+_, _-_, _≤_, _<_}
 use native.Mathlib.Omega.{arith}
 use native.Mathlib.Decide.{ℕ-discrete}
-use Rattle.network.specs.Check.{unless, first, firstFrom}
+use Rattle.network.specs.Check.{unless, first, firstOf, firstFrom}
 use Rattle.network.specs.declared.Refusal.{Refusal}
 use Rattle.network.specs.declared.Checked.{Checked}
 use Rattle.network.specs.declared.Checked.the-variants.{Passed, Refused}
@@ -14,11 +15,29 @@ pub first-end : (a : Checked) → first a Passed ≡ a
 first-end Passed = refl
 first-end (Refused r) = refl
 
+-- the tests of one list and then of another
+pub first-append : (xs ys : List Checked) {x : Checked} → firstOf xs ≡ x → firstOf (xs ++ ys) ≡ first x (firstOf ys)
+first-append xs ys e = go xs ∙ ap (λ (y : Checked). first y (firstOf ys)) e
+  where
+    go : (xs : List Checked) → firstOf (xs ++ ys) ≡ first (firstOf xs) (firstOf ys)
+    go [] = refl
+    go (Passed ∷ xs) = go xs
+    go (Refused r ∷ xs) = refl
+
 -- ---- what a passed test tells
 
 pub first-passed : (a b : Checked) → first a b ≡ Passed → (a ≡ Passed) × (b ≡ Passed)
 first-passed Passed b e = (refl, e)
 first-passed (Refused r) b e = let z : _≡_ {A = ℕ} 0 1 = cc in absurd (omega arith)
+
+-- each test of a list
+abbrev pub AllPassed : List Checked → Type 0
+AllPassed [] = Unit {0}
+AllPassed (c ∷ cs) = (c ≡ Passed) × AllPassed cs
+
+pub each-passed : (cs : List Checked) → firstOf cs ≡ Passed → AllPassed cs
+each-passed [] e = tt
+each-passed (c ∷ cs) e = let a = first-passed c (firstOf cs) e in (a .0, each-passed cs (a .1))
 
 pub unless-passed : (t : Bool) (r : Refusal) → unless t r ≡ Passed → t ≡ true
 unless-passed true r e = refl

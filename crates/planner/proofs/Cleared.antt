@@ -1,0 +1,106 @@
+-- What a question that passes the tests before its route is known to have. Assumes nothing.
+use mathlib.Core.Path.{_≡_, ap, _∙_}
+use mathlib.Core.Bool.{true}
+use mathlib.Core.List.{List}
+use Prim.Native.Nat.{ℕ, _≤_, _<_, _^_}
+use native.Mathlib.Omega.{arith}
+use borrow.Author.Tests.{leb-true, le-leb}
+use lib.Dec.{leb}
+use lib.IntN.{ℤ, pos, negsuc, negℤ}
+use lib.Signed.{leZ, mag}
+use mir.Syntax.{w64}
+use mir.Val.{toZ, ofZ}
+use Rattle.numbers.proofs.Bits.{back64}
+use Rattle.numbers.specs.Signed.{draw, gain}
+use Rattle.battery.specs.Ready.{Ranged, most}
+use Rattle.battery.specs.declared.Road.{Road}
+use Rattle.network.proofs.Faults.{each-passed, unless-passed, both-true}
+use Rattle.network.proofs.Records.{all-sound}
+use Rattle.network.specs.Check.{firstOf, recordsFault}
+use Rattle.network.specs.Files.{inRange}
+use Rattle.network.specs.declared.Checked.the-variants.{Passed}
+use Rattle.network.specs.declared.Refusal.the-variants.{Battery, Start, LongRoute}
+use Rattle.routes.specs.Places.{mostEntries}
+use Rattle.routes.specs.Steps.{RangedRoads}
+use Rattle.planner.specs.Checks.{beforeDrive, beforeProfile}
+use Rattle.planner.specs.Order.{isBattery, isStart}
+use Rattle.planner.specs.declared.DriveQuestion.{DriveQuestion}
+use Rattle.planner.specs.declared.ProfileQuestion.{ProfileQuestion}
+
+-- a number of a question that is a natural, at most `most`
+pub record Whole (z : ℤ) : Type 0 where
+  pub from-0 : leZ (pos 0) z ≡ true
+  pub up-to : leZ z (pos most) ≡ true
+  pub draw-le : draw z ≤ most
+
+-- the same of its bits, which `whole` is asked for
+pub whole-bits : {z : ℤ} → mag z < 2 ^ 63 → Whole z
+    → (leZ (pos 0) (toZ w64 (ofZ w64 z)) ≡ true) × (leZ (toZ w64 (ofZ w64 z)) (pos most) ≡ true)
+whole-bits {z} h w =
+    let b = back64 {z = z} h in
+    (ap (leZ (pos 0)) b ∙ w .from-0, ap (λ (y : ℤ). leZ y (pos most)) b ∙ w .up-to)
+
+-- 3
+pub battery-whole : (m : ℤ) → isBattery m ≡ true → Whole m
+battery-whole (pos n) e =
+    let h = leb-true n most (both-true (leZ (pos 1) (pos n)) (leb n most) e .1) in
+    record { from-0 = le-leb 0 n (omega arith); up-to = le-leb n most h; draw-le = h }
+battery-whole (negsuc n) e = let z : _≡_ {A = ℕ} 0 1 = cc in absurd (omega arith)
+
+-- 4
+pub start-whole : (m b : ℤ) → isBattery m ≡ true → isStart m b ≡ true → Whole b × (draw b ≤ draw m)
+start-whole (pos n) (pos k) e f =
+    let h = leb-true n most (both-true (leZ (pos 1) (pos n)) (leb n most) e .1) in
+    let g = leb-true k n (both-true (leZ (pos 0) (pos k)) (leb k n) f .1) in
+    (record { from-0 = le-leb 0 k (omega arith); up-to = le-leb k most (omega arith); draw-le = omega arith }, g)
+start-whole (pos n) (negsuc k) e f = let z : _≡_ {A = ℕ} 0 1 = cc in absurd (omega arith)
+start-whole (negsuc n) b e f = let z : _≡_ {A = ℕ} 0 1 = cc in absurd (omega arith)
+
+-- 8 of all records
+road-ranged : (r : Road) → inRange (r .consumption) ≡ true → Ranged r
+road-ranged r e =
+    let b = both-true (leZ (negℤ (pos most)) (r .consumption)) (leZ (r .consumption) (pos most)) e in
+    record { draw-le = d (r .consumption) (b .1); gain-le = g (r .consumption) (b .0) }
+  where
+    d : (c : ℤ) → leZ c (pos most) ≡ true → draw c ≤ most
+    d (pos n) h = leb-true n most h
+    d (negsuc n) h = omega arith
+
+    g : (c : ℤ) → leZ (negℤ (pos most)) c ≡ true → gain c ≤ most
+    g (pos n) h = omega arith
+    g (negsuc n) h = let k = leb-true n 199999999 h in omega arith
+
+pub all-ranged : (ns rs : List ℕ) → recordsFault ns rs ≡ Passed → RangedRoads rs
+all-ranged ns rs e = record { ranged = λ k h. road-ranged _ (all-sound ns rs e k h .ranged) }
+
+-- 5, 11 and the records
+pub record Cleared (ns rs : List ℕ) (m : ℤ) (entries : ℕ) : Type 0 where
+  pub battery-ok : isBattery m ≡ true
+  pub entries-le : entries ≤ mostEntries
+  pub records-ok : recordsFault ns rs ≡ Passed
+
+pub drive-cleared : (ns rs : List ℕ) (q : DriveQuestion) (entries : ℕ) → firstOf (beforeDrive ns rs q entries) ≡ Passed
+    → Cleared ns rs (q .battery) entries × (isStart (q .battery) (q .start) ≡ true)
+drive-cleared ns rs q entries e =
+    let a = each-passed (beforeDrive ns rs q entries) e in
+    let b = a .1 .1 in
+    let c = b .1 .1 .1 in (
+      record {
+        battery-ok = unless-passed (isBattery (q .battery)) Battery (b .0);
+        entries-le = leb-true _ _ (unless-passed (leb entries mostEntries) LongRoute (c .0));
+        records-ok = c .1 .0;
+      },
+      unless-passed (isStart (q .battery) (q .start)) Start (b .1 .0),
+    )
+
+pub profile-cleared : (ns rs : List ℕ) (q : ProfileQuestion) (entries : ℕ) → firstOf (beforeProfile ns rs q entries) ≡ Passed
+    → Cleared ns rs (q .battery) entries
+profile-cleared ns rs q entries e =
+    let a = each-passed (beforeProfile ns rs q entries) e in
+    let b = a .1 .1 in
+    let c = b .1 .1 in
+    record {
+      battery-ok = unless-passed (isBattery (q .battery)) Battery (b .0);
+      entries-le = leb-true _ _ (unless-passed (leb entries mostEntries) LongRoute (c .0));
+      records-ok = c .1 .0;
+    }

@@ -1,0 +1,4 @@
+pub mod Given
+pub mod Order
+pub mod Promises
+pub mod Checks

@@ -1,0 +1,135 @@
+// The public entries. Each takes any bytes and any numbers, asks nothing of its caller, and ends
+// with its answer or with one numbered refusal.
+ghost use mathlib.Core.Path.{_≡_};
+ghost use mathlib.Core.List.{[], _∷_};
+ghost use Prim.Native.Nat.{_≤_};
+ghost use Rattle.network.specs.Check.{firstOf};
+ghost use Rattle.planner.specs.Given.{checkNumbers, driveNumbers, profileNumbers};
+ghost use Rattle.planner.specs.Order.{isBattery, isStart};
+ghost use Rattle.planner.specs.Checks.{beforeBattery, beforeRoute, beforeDrive, beforeProfile};
+ghost use Rattle.planner.specs.Promises.{Checks, Drives, Profiles};
+use battery::Van;
+use network::Checked;
+use network::Refusal;
+use routes::Driven;
+use routes::Profiled;
+
+// The largest battery size, in mWh.
+pub const MOST_BATTERY: i64 = 200000000;
+
+// What a drive is asked for: battery size and start charge in mWh, and where it sets out.
+pub struct DriveQuestion {
+    pub battery: i64,
+    pub start: i64,
+    pub source: u64,
+}
+
+// What a profile is asked for.
+pub struct ProfileQuestion {
+    pub battery: i64,
+    pub source: u64,
+}
+
+// Network check: success or the first fault.
+pub fn check(nodes: &[u8], roads: &[u8]) -> Checked
+    ensures { λ r. ⌜ Checks (now (nodes .entry)) (now (roads .entry)) (checkNumbers r) ⌝ }
+{
+    network::check(nodes, roads)
+}
+
+// Drive of a given route: arrival and totals, or the first fault.
+pub fn drive(nodes: &[u8], roads: &[u8], question: DriveQuestion, route: &[u16]) -> Driven
+    ensures { λ r. ⌜ Drives (now (nodes .entry)) (now (roads .entry)) question (now (route .entry)) (driveNumbers r) ⌝ }
+{
+    let checked = check_drive(nodes, roads, question, route.len());
+    if let Checked::Refused(r) = checked {
+        return Driven::Refused(r);
+    }
+    let van = Van::new(
+        numbers::whole(question.battery),
+        numbers::whole(question.start),
+    );
+    routes::drive_route(roads, route, question.source as usize, van)
+}
+
+// Profile of a given route: need, sum and top, or the first fault.
+pub fn profile(nodes: &[u8], roads: &[u8], question: ProfileQuestion, route: &[u16]) -> Profiled
+    ensures { λ r. ⌜ Profiles (now (nodes .entry)) (now (roads .entry)) question (now (route .entry)) (profileNumbers r) ⌝ }
+{
+    let checked = check_profile(nodes, roads, question, route.len());
+    if let Checked::Refused(r) = checked {
+        return Profiled::Refused(r);
+    }
+    let battery = numbers::whole(question.battery);
+    routes::profile_route(roads, route, question.source as usize, battery)
+}
+
+// The tests of a drive before its route: 1, 2, 3, 4, 5, 11, the records.
+fn check_drive(nodes: &[u8], roads: &[u8], question: DriveQuestion, entries: usize) -> Checked
+    ensures { λ r. ⌜ r ≡ firstOf (beforeDrive (now (nodes .entry)) (now (roads .entry)) question entries) ⌝ }
+{
+    let opened = check_battery(nodes, roads, question.battery);
+    if let Checked::Refused(r) = opened {
+        return Checked::Refused(r);
+    }
+    if !is_start(question.battery, question.start) {
+        return Checked::Refused(Refusal::Start);
+    }
+    check_source(nodes, roads, question.source, entries)
+}
+
+// The tests of a profile before its route: 1, 2, 3, 5, 11, the records.
+fn check_profile(nodes: &[u8], roads: &[u8], question: ProfileQuestion, entries: usize) -> Checked
+    ensures { λ r. ⌜ r ≡ firstOf (beforeProfile (now (nodes .entry)) (now (roads .entry)) question entries) ⌝ }
+{
+    let opened = check_battery(nodes, roads, question.battery);
+    if let Checked::Refused(r) = opened {
+        return Checked::Refused(r);
+    }
+    check_source(nodes, roads, question.source, entries)
+}
+
+// 1, 2, 3.
+fn check_battery(nodes: &[u8], roads: &[u8], battery: i64) -> Checked
+    ensures { λ r. ⌜ r ≡ firstOf (beforeBattery (now (nodes .entry)) (now (roads .entry)) battery) ⌝ }
+{
+    if !network::is_junction_file(nodes) {
+        return Checked::Refused(Refusal::JunctionFile);
+    }
+    if !network::is_road_file(roads) {
+        return Checked::Refused(Refusal::RoadFile);
+    }
+    if !is_battery(battery) {
+        return Checked::Refused(Refusal::Battery);
+    }
+    Checked::Passed
+}
+
+// 5 (source), 11, the records.
+fn check_source(nodes: &[u8], roads: &[u8], source: u64, entries: usize) -> Checked
+    ensures { λ r. ⌜ r ≡ firstOf (beforeRoute (now (nodes .entry)) (now (roads .entry)) source entries) ⌝ }
+{
+    if (nodes.len() / network::JUNCTION_BYTES) as u64 <= source {
+        return Checked::Refused(Refusal::NoJunction);
+    }
+    if routes::MOST_ENTRIES < entries {
+        return Checked::Refused(Refusal::LongRoute);
+    }
+    network::check_records(nodes, roads)
+}
+
+fn is_battery(battery: i64) -> bool
+    ensures { λ r. ⌜ r ≡ isBattery battery ⌝ }
+{
+    if 1 <= battery {
+        battery <= MOST_BATTERY
+    } else {
+        false
+    }
+}
+
+fn is_start(battery: i64, start: i64) -> bool
+    ensures { λ r. ⌜ r ≡ isStart battery start ⌝ }
+{
+    if 0 <= start { start <= battery } else { false }
+}
