@@ -3,10 +3,13 @@ use mathlib.Core.Path.{_≡_, refl, ap, _∙_}
 use mathlib.Core.Bool.{Bool, true, false, _&&_}
 use mathlib.Core.List.{List, [], _∷_, _++_}
 use Prim.Native.Nat.{ℕ, zero, suc, _+_, _-_, _≤_, _<_}
+use mathlib.Core.Logic.{_⊎_, inl, inr, ⊎-elim}
 use native.Mathlib.Omega.{arith}
 use native.Mathlib.Decide.{ℕ-discrete}
 use Rattle.network.specs.Check.{unless, first, firstOf, firstFrom}
+use Rattle.network.specs.Refusals.{numberOf}
 use Rattle.network.specs.declared.Refusal.{Refusal}
+use Rattle.network.specs.declared.Refusal.the-variants.{JunctionFile, RoadFile, Battery, Start, NoJunction, ShortList, Ends, Consumption, Potential, NoRoute, LongRoute, NotRoad, NotHere, TooLow, Impassable}
 use Rattle.network.specs.declared.Checked.{Checked}
 use Rattle.network.specs.declared.Checked.the-variants.{Passed, Refused}
 
@@ -78,3 +81,37 @@ from-passed f (suc n) j k e h l =
 -- where no place fails, each passes
 pub all-passed : (f : ℕ → Checked) (n : ℕ) → firstFrom f n 0 ≡ Passed → (k : ℕ) → k < n → f k ≡ Passed
 all-passed f n e k h = from-passed f n 0 k e (omega arith) (omega arith)
+
+-- ---- where a place fails
+
+pub record Found (f : ℕ → Checked) (r : Refusal) : Type 0 where
+  pub at : ℕ
+  pub fails : f at ≡ Refused r
+
+first-refused : (a b : Checked) {r : Refusal} → first a b ≡ Refused r → (a ≡ Refused r) ⊎ (b ≡ Refused r)
+first-refused Passed b e = inr e
+first-refused (Refused q) b e = inl e
+
+pub from-found : (f : ℕ → Checked) (n k : ℕ) {r : Refusal} → firstFrom f n k ≡ Refused r → Found f r
+unfolding firstFrom
+from-found f zero k e = let z : _≡_ {A = ℕ} 0 1 = cc in absurd (omega arith)
+from-found f (suc n) k e = ⊎-elim (λ a. record { at = k; fails = a }) (λ b. from-found f n (k + 1) b) (first-refused _ _ e)
+
+-- ---- refusals by their numbers
+
+pub number-pos : (r : Refusal) → 0 < numberOf r
+number-pos JunctionFile = omega arith
+number-pos RoadFile = omega arith
+number-pos Battery = omega arith
+number-pos Start = omega arith
+number-pos NoJunction = omega arith
+number-pos ShortList = omega arith
+number-pos (Ends k) = omega arith
+number-pos (Consumption k) = omega arith
+number-pos (Potential k) = omega arith
+number-pos NoRoute = omega arith
+number-pos LongRoute = omega arith
+number-pos (NotRoad i) = omega arith
+number-pos (NotHere i) = omega arith
+number-pos (TooLow i) = omega arith
+number-pos (Impassable i) = omega arith

@@ -1,2 +1,4 @@
 mod Cleared
 mod Entries
+pub mod OneOutcome
+pub mod FixedRoute

@@ -1,3 +1,4 @@
 mod Places
 mod Driving
 mod Profiling
+pub mod Low

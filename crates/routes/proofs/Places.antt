@@ -107,7 +107,7 @@ standing-start rs source es last =
 
 -- ---- the roads of the first places
 
-map-append : (rs xs ys : List ℕ) → roadsOf rs (xs ++ ys) ≡ roadsOf rs xs ++ roadsOf rs ys
+pub map-append : (rs xs ys : List ℕ) → roadsOf rs (xs ++ ys) ≡ roadsOf rs xs ++ roadsOf rs ys
 map-append rs [] ys = refl
 map-append rs (x ∷ xs) ys = ap (λ (l : List Road). roadOf rs x ∷ l) (map-append rs xs ys)
 
