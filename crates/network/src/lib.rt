@@ -48,7 +48,7 @@ pub enum Checked {
 }
 
 // Document 01's number of a refusal.
-pub fn number(r: Refusal) -> u32
+pub fn number(r: Refusal) -> u64
     ensures { λ n. ⌜ n ≡ numberOf r ⌝ }
 {
     match r {
@@ -71,7 +71,7 @@ pub fn number(r: Refusal) -> u32
 }
 
 // The place of the first fault.
-pub fn place(r: Refusal) -> usize
+pub fn place(r: Refusal) -> u64
     ensures { λ n. ⌜ n ≡ placeOf r ⌝ }
 {
     match r {
@@ -81,15 +81,15 @@ pub fn place(r: Refusal) -> usize
         Refusal::Start => 0,
         Refusal::NoJunction => 0,
         Refusal::ShortList => 0,
-        Refusal::Ends(k) => k,
-        Refusal::Consumption(k) => k,
-        Refusal::Potential(k) => k,
+        Refusal::Ends(k) => k as u64,
+        Refusal::Consumption(k) => k as u64,
+        Refusal::Potential(k) => k as u64,
         Refusal::NoRoute => 0,
         Refusal::LongRoute => 0,
-        Refusal::NotRoad(i) => i,
-        Refusal::NotHere(i) => i,
-        Refusal::TooLow(i) => i,
-        Refusal::Impassable(i) => i,
+        Refusal::NotRoad(i) => i as u64,
+        Refusal::NotHere(i) => i as u64,
+        Refusal::TooLow(i) => i as u64,
+        Refusal::Impassable(i) => i as u64,
     }
 }
 

@@ -30,9 +30,10 @@ use Rattle.routes.proofs.Low.{low-route}
 use Rattle.routes.specs.Places.{mostEntries}
 use Rattle.routes.specs.declared.Driven.the-variants as driven
 use Rattle.planner.specs.Checks.{beforeDrive}
-use Rattle.planner.specs.Given.{DriveNumbers, driveNumbers}
+use Rattle.planner.specs.Given.{driveNumbers}
 use Rattle.planner.specs.Order.{isBattery, isStart, vanOf, driveFault}
 use Rattle.planner.specs.Promises.{Drives}
+use Rattle.planner.specs.declared.DriveNumbers.{DriveNumbers}
 use Rattle.planner.specs.declared.DriveQuestion.{DriveQuestion}
 use Rattle.planner.proofs.Entries.{drive-fault-is}
 

@@ -1,7 +1,6 @@
 -- Numbers given back: document 01's number and values of each answer. A success has number 0 and place 0; a refusal has its
 -- number and place, and zero for all other numbers.
-use Prim.Native.Nat.{ℕ}
-use lib.IntN.{ℤ, pos}
+use lib.IntN.{pos}
 use Rattle.battery.specs.declared.Profile.{Profile}
 use Rattle.battery.specs.declared.Van.{Van}
 use Rattle.network.specs.Refusals.{numberOf, placeOf}
@@ -11,22 +10,13 @@ use Rattle.routes.specs.declared.Driven.{Driven}
 use Rattle.routes.specs.declared.Driven.the-variants as driven
 use Rattle.routes.specs.declared.Profiled.{Profiled}
 use Rattle.routes.specs.declared.Profiled.the-variants as profiled
-
-pub record CheckNumbers : Type 0 where
-  pub number : ℕ
-  pub place : ℕ
+use Rattle.planner.specs.declared.CheckNumbers.{CheckNumbers}
+use Rattle.planner.specs.declared.DriveNumbers.{DriveNumbers}
+use Rattle.planner.specs.declared.ProfileNumbers.{ProfileNumbers}
 
 abbrev pub checkNumbers : Checked → CheckNumbers
 checkNumbers checked.Passed = record { number = 0; place = 0 }
 checkNumbers (checked.Refused r) = record { number = numberOf r; place = placeOf r }
-
-pub record DriveNumbers : Type 0 where
-  pub number : ℕ
-  pub place : ℕ
-  pub arrival : ℕ
-  pub drawn : ℕ
-  pub recovered : ℕ
-  pub spilled : ℕ
 
 abbrev pub driveNumbers : Driven → DriveNumbers
 driveNumbers (driven.Arrived v) =
@@ -40,13 +30,6 @@ driveNumbers (driven.Arrived v) =
     }
 driveNumbers (driven.Refused r) =
     record { number = numberOf r; place = placeOf r; arrival = 0; drawn = 0; recovered = 0; spilled = 0 }
-
-pub record ProfileNumbers : Type 0 where
-  pub number : ℕ
-  pub place : ℕ
-  pub need : ℕ
-  pub sum : ℤ
-  pub top : ℕ
 
 abbrev pub profileNumbers : Profiled → ProfileNumbers
 profileNumbers (profiled.Known p) =

@@ -16,8 +16,11 @@ use Rattle.network.specs.declared.Refusal.{Refusal}
 use Rattle.network.specs.declared.Checked.the-variants.{Passed, Refused}
 use Rattle.routes.specs.declared.Driven.the-variants as driven
 use Rattle.routes.specs.declared.Profiled.the-variants as profiled
-use Rattle.planner.specs.Given.{CheckNumbers, checkNumbers, DriveNumbers, driveNumbers, ProfileNumbers, profileNumbers}
+use Rattle.planner.specs.Given.{checkNumbers, driveNumbers, profileNumbers}
 use Rattle.planner.specs.Order.{vanOf, driveFault, profileFault}
+use Rattle.planner.specs.declared.CheckNumbers.{CheckNumbers}
+use Rattle.planner.specs.declared.DriveNumbers.{DriveNumbers}
+use Rattle.planner.specs.declared.ProfileNumbers.{ProfileNumbers}
 use Rattle.planner.specs.declared.DriveQuestion.{DriveQuestion}
 use Rattle.planner.specs.declared.ProfileQuestion.{ProfileQuestion}
 

@@ -30,6 +30,29 @@ pub struct ProfileQuestion {
     pub source: u64,
 }
 
+// Document 01's number and values of each answer. A success has number 0 and place 0.
+pub struct CheckNumbers {
+    pub number: u64,
+    pub place: u64,
+}
+
+pub struct DriveNumbers {
+    pub number: u64,
+    pub place: u64,
+    pub arrival: u64,
+    pub drawn: u64,
+    pub recovered: u64,
+    pub spilled: u64,
+}
+
+pub struct ProfileNumbers {
+    pub number: u64,
+    pub place: u64,
+    pub need: u64,
+    pub sum: i64,
+    pub top: u64,
+}
+
 // Network check: success or the first fault.
 pub fn check(nodes: &[u8], roads: &[u8]) -> Checked
     ensures { λ r. ⌜ Checks (now (nodes .entry)) (now (roads .entry)) (checkNumbers r) ⌝ }
@@ -62,6 +85,65 @@ pub fn profile(nodes: &[u8], roads: &[u8], question: ProfileQuestion, route: &[u
     }
     let battery = numbers::whole(question.battery);
     routes::profile_route(roads, route, question.source as usize, battery)
+}
+
+pub fn check_numbers(answer: Checked) -> CheckNumbers
+    ensures { λ r. ⌜ r ≡ checkNumbers answer ⌝ }
+{
+    match answer {
+        Checked::Passed => CheckNumbers {
+            number: 0,
+            place: 0,
+        },
+        Checked::Refused(r) => CheckNumbers {
+            number: network::number(r),
+            place: network::place(r),
+        },
+    }
+}
+
+pub fn drive_numbers(answer: Driven) -> DriveNumbers
+    ensures { λ r. ⌜ r ≡ driveNumbers answer ⌝ }
+{
+    match answer {
+        Driven::Arrived(van) => DriveNumbers {
+            number: 0,
+            place: 0,
+            arrival: van.charge as u64,
+            drawn: van.drawn,
+            recovered: van.recovered,
+            spilled: van.spilled,
+        },
+        Driven::Refused(r) => DriveNumbers {
+            number: network::number(r),
+            place: network::place(r),
+            arrival: 0,
+            drawn: 0,
+            recovered: 0,
+            spilled: 0,
+        },
+    }
+}
+
+pub fn profile_numbers(answer: Profiled) -> ProfileNumbers
+    ensures { λ r. ⌜ r ≡ profileNumbers answer ⌝ }
+{
+    match answer {
+        Profiled::Known(profile) => ProfileNumbers {
+            number: 0,
+            place: 0,
+            need: profile.need as u64,
+            sum: profile.sum,
+            top: profile.top as u64,
+        },
+        Profiled::Refused(r) => ProfileNumbers {
+            number: network::number(r),
+            place: network::place(r),
+            need: 0,
+            sum: 0,
+            top: 0,
+        },
+    }
 }
 
 // The tests of a drive before its route: 1, 2, 3, 4, 5, 11, the records.
