@@ -128,6 +128,10 @@ pub from-zero : (x : ℤ) → leZ (pos 0) x ≡ true → x ≡ pos (draw x)
 from-zero (pos n) h = refl
 from-zero (negsuc n) h = let z : _≡_ {A = ℕ} 0 1 = cc in absurd (omega arith)
 
+pub nonneg : (x : ℤ) → ltZ x (pos 0) ≡ false → x ≡ pos (draw x)
+nonneg (pos n) h = refl
+nonneg (negsuc n) h = let z : _≡_ {A = ℕ} 0 1 = cc in absurd (omega arith)
+
 pub nonneg-gain : (x : ℤ) → ltZ x (pos 0) ≡ false → gain x ≡ 0
 nonneg-gain (pos n) h = refl
 nonneg-gain (negsuc n) h = let z : _≡_ {A = ℕ} 0 1 = cc in absurd (omega arith)
