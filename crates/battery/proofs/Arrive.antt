@@ -23,38 +23,38 @@ use Rattle.battery.proofs.Rule.{left-is, drivable-is}
 use Rattle.battery.proofs.Drive.{Went, Driving, on, low, driving}
 use Rattle.battery.proofs.Join.{Keeps, reach-is, left-min, left-twice, road-top, road-keeps}
 
--- a profile, and what came of the drive from b
-pub data Agrees (b : ℕ) : Passage → Drove → Type 0 where
+-- what a profile tells of the drive from b
+pub data Tells (b : ℕ) : Passage → Drove → Type 0 where
   arrives : {p : Profile} {w : Van} → p .need ≤ b → w .charge ≡ min (p .top) (left b (p .sum))
-      → Agrees b (Passable p) (On w)
-  below : {p : Profile} → b < p .need → Agrees b (Passable p) TooLow
-  never : Agrees b Impassable TooLow
+      → Tells b (Passable p) (On w)
+  below : {p : Profile} → b < p .need → Tells b (Passable p) TooLow
+  never : Tells b Impassable TooLow
 
 -- ---- one road
 
 road-on : (M : ℕ) (v w : Van) (r : Road) → v .battery ≡ M → v .charge ≤ M → Went v r w
-    → Agrees (v .charge) (oneRoad M r) (On w)
+    → Tells (v .charge) (oneRoad M r) (On w)
 unfolding oneRoad
 road-on M v w r m h g =
     let c = r .consumption in
     let e = (rw m at (g .charge-is)) ∙ sym (road-top M (v .charge) c (g .enough) h) in
     simp (drivable-is M c, le-leb (draw c) M (omega arith)) (arrives (g .enough) e)
 
-road-low : (M b : ℕ) (r : Road) → b < draw (r .consumption) → Agrees b (oneRoad M r) TooLow
+road-low : (M b : ℕ) (r : Road) → b < draw (r .consumption) → Tells b (oneRoad M r) TooLow
 unfolding oneRoad
 road-low M b r h = go (drivable M (r .consumption))
   where
-    go : (t : Bool) → Agrees b (pickPassage t (Passable (roadProfile M r)) Impassable) TooLow
+    go : (t : Bool) → Tells b (pickPassage t (Passable (roadProfile M r)) Impassable) TooLow
     go true = below h
     go false = never
 
 -- ---- one route followed by another
 
-followed-low : {b : ℕ} {x : Passage} (y : Passage) → Agrees b x TooLow → Agrees b (followedBy x y) TooLow
+followed-low : {b : ℕ} {x : Passage} (y : Passage) → Tells b x TooLow → Tells b (followedBy x y) TooLow
 unfolding followedBy
 followed-low {b} (Passable q) (below {p} l) = go (leb (q .need) (p .top))
   where
-    go : (t : Bool) → Agrees b (pickPassage t (Passable (joined p q)) Impassable) TooLow
+    go : (t : Bool) → Tells b (pickPassage t (Passable (joined p q)) Impassable) TooLow
     go true = below {p = joined p q} (omega arith)
     go false = never
 followed-low Impassable (below l) = never
@@ -63,12 +63,12 @@ followed-low y never = never
 -- p is driven from b, and then q from where it arrives
 module _ (b : ℕ) (p q : Profile) (w : Van) (sum-le : draw (p .sum) ≤ b + gain (p .sum)) (enough : p .need ≤ b)
     (charge-is : w .charge ≡ min (p .top) (left b (p .sum))) where
-  then-low : w .charge < q .need → Agrees b (followedBy (Passable p) (Passable q)) TooLow
+  then-low : w .charge < q .need → Tells b (followedBy (Passable p) (Passable q)) TooLow
   unfolding followedBy
   then-low l = go (leb (q .need) (p .top)) refl
     where
       go : (t : Bool) → leb (q .need) (p .top) ≡ t
-          → Agrees b (pickPassage t (Passable (joined p q)) Impassable) TooLow
+          → Tells b (pickPassage t (Passable (joined p q)) Impassable) TooLow
       go true e =
           let h = leb-true (q .need) (p .top) e in
           let n = reach-is (q .need) (p .sum) in
@@ -85,7 +85,7 @@ module _ (b : ℕ) (p q : Profile) (w : Van) (sum-le : draw (p .sum) ≤ b + gai
       omega arith
 
   then-on : {u : Van} → q .need ≤ w .charge → u .charge ≡ min (q .top) (left (w .charge) (q .sum))
-      → Agrees b (followedBy (Passable p) (Passable q)) (On u)
+      → Tells b (followedBy (Passable p) (Passable q)) (On u)
   unfolding followedBy
   then-on {u} h e =
       let n = reach-is (q .need) (p .sum) in
@@ -93,7 +93,7 @@ module _ (b : ℕ) (p q : Profile) (w : Van) (sum-le : draw (p .sum) ≤ b + gai
       simp (le-leb (q .need) (p .top) (omega arith)) (arrives {p = joined p q} (omega arith) (then-charge e))
 
 followed-on : (M : ℕ) {b : ℕ} {x y : Passage} {w : Van} {d : Drove}
-    → Keeps M x → Agrees b x (On w) → Agrees (w .charge) y d → Agrees b (followedBy x y) d
+    → Keeps M x → Tells b x (On w) → Tells (w .charge) y d → Tells b (followedBy x y) d
 unfolding followedBy
 followed-on M {b} {w} P (arrives {p} h e) (arrives {p = q} k f) = then-on b p q w (omega arith) h e k f
 followed-on M {b} {w} P (arrives {p} h e) (below {p = q} l) = then-low b p q w (omega arith) h e l
@@ -101,17 +101,17 @@ followed-on M P (arrives h e) never = never
 
 -- ---- the roads in turn
 
-pub agree : (M : ℕ) (v : Van) (rs : List Road) → v .battery ≡ M → v .charge ≤ M
-    → Agrees (v .charge) (profileOf M rs) (driveAll v rs)
+pub tells : (M : ℕ) (v : Van) (rs : List Road) → v .battery ≡ M → v .charge ≤ M
+    → Tells (v .charge) (profileOf M rs) (driveAll v rs)
 unfolding profileOf driveAll
-agree M v [] m h =
+tells M v [] m h =
     let e = left-is (v .charge) (pos 0) in
     arrives {p = noRoads M} {w = v} (omega arith) (omega arith)
-agree M v (r ∷ rs) m h = go (drive v r) (driving v r) (λ w b c. agree M w rs b c)
+tells M v (r ∷ rs) m h = go (drive v r) (driving v r) (λ w b c. tells M w rs b c)
   where
     go : (d : Drove) → Driving v r d
-        → ((w : Van) → w .battery ≡ M → w .charge ≤ M → Agrees (w .charge) (profileOf M rs) (driveAll w rs))
-        → Agrees (v .charge) (followedBy (oneRoad M r) (profileOf M rs)) (andThen d (λ w. driveAll w rs))
+        → ((w : Van) → w .battery ≡ M → w .charge ≤ M → Tells (w .charge) (profileOf M rs) (driveAll w rs))
+        → Tells (v .charge) (followedBy (oneRoad M r) (profileOf M rs)) (andThen d (λ w. driveAll w rs))
     go (On w) (on g) f =
         followed-on M (road-keeps M r) (road-on M v w r m h g) (f w (omega arith) (omega arith))
     go TooLow (low l) f = followed-low (profileOf M rs) (road-low M (v .charge) r l)

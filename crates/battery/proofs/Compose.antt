@@ -9,6 +9,7 @@ use lib.Dec.{leb}
 use lib.IntN.{ℤ, pos, _+ℤ_, +ℤ-assoc, +ℤ-idl, +ℤ-idr}
 use Rattle.numbers.specs.Signed.{draw, gain}
 use Rattle.numbers.proofs.Diff.{diff-self, diff-pos, diff-add, draw-of, leb-same}
+use Rattle.battery.specs.Claims.{Composition}
 use Rattle.battery.specs.Rule.{left}
 use Rattle.battery.specs.Profile.{noRoads, oneRoad, joined, followedBy, profileOf, pickPassage}
 use Rattle.battery.specs.Ready.{Kept}
@@ -107,7 +108,7 @@ followed-first M Impassable Q = refl
 
 -- ---- two routes
 
-pub compose : (M : ℕ) (ps qs : List Road) → profileOf M (ps ++ qs) ≡ followedBy (profileOf M ps) (profileOf M qs)
+pub compose : Composition
 unfolding profileOf
 compose M [] qs = sym (followed-first M (profileOf M qs) (profile-keeps M qs))
 compose M (r ∷ ps) qs =

@@ -5,6 +5,7 @@ use mathlib.Core.List.{List, [], _∷_}
 use Prim.Native.Nat.{ℕ, _+_, _-_, _≤_, _<_, max}
 use native.Mathlib.Omega.{arith}
 use Rattle.numbers.specs.Signed.{draw}
+use Rattle.battery.specs.Claims.{Rises, FixedRoute}
 use Rattle.battery.specs.Drive.{fresh, drive, driveAll, andThen}
 use Rattle.battery.specs.declared.Road.{Road}
 use Rattle.battery.specs.declared.Van.{Van}
@@ -44,18 +45,10 @@ follows d v w (r ∷ rs) {end} a e = go (drive v r) (drive w r) (driving v r) (d
     go (On x) TooLow (on p) (low q) h k = let b = p .enough in let c = a .charge-le in absurd (omega arith)
     go TooLow g (low p) q h k = let z : _≡_ {A = ℕ} 0 1 = cc in absurd (omega arith)
 
--- a route that can be driven, driven again with a battery and a start that are no lower
-pub record Rises (M M' b b' : ℕ) (rs : List Road) (end : Van) : Type 0 where
-  pub van : Van
-  pub drives : driveAll (fresh M' b') rs ≡ On van
-  pub no-less : end .charge ≤ van .charge
-  pub at-most : van .charge ≤ end .charge + max (M' - M) (b' - b)
-
-pub fixed-route : (M M' b b' : ℕ) (rs : List Road) {end : Van} → M ≤ M' → b ≤ b' → driveAll (fresh M b) rs ≡ On end
-    → Rises M M' b b' rs end
-fixed-route M M' b b' rs m s e =
+pub fixed-route : FixedRoute
+fixed-route M M' b b' rs first m s e =
     let d = max (M' - M) (b' - b) in
     let start : Ahead d (fresh M b) (fresh M' b') =
     record { battery-le = m; battery-by = omega arith; charge-le = s; charge-by = omega arith } in
     let f = follows d (fresh M b) (fresh M' b') rs start e in
-    record { van = f .van; drives = f .drives; no-less = f .ahead .charge-le; at-most = f .ahead .charge-by }
+    record { second = f .van; drives = f .drives; no-less = f .ahead .charge-le; at-most = f .ahead .charge-by }

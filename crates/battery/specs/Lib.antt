@@ -1,4 +1,5 @@
 pub mod Rule
 pub mod Drive
 pub mod Profile
+pub mod Claims
 pub mod Ready

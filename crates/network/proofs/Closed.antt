@@ -1,21 +1,18 @@
 -- If all roads pass, no closed walk gains energy. Along a walk from v to w by passing roads, the sum of the consumptions is at
 -- least potential(v) − potential(w). Assumes nothing.
 use mathlib.Core.Path.{_≡_, sym, ap, _∙_}
-use mathlib.Core.Bool.{true}
 use mathlib.Core.List.{List, [], _∷_}
 use Prim.Native.Nat.{ℕ, _+_, _≤_}
 use native.Mathlib.Omega.{arith}
 use borrow.Author.Tests.{leb-true, le-leb}
 use lib.Dec.{leb}
-use lib.IntN.{ℤ, pos}
-use lib.Signed.{leZ}
+use lib.IntN.{ℤ}
 use Rattle.numbers.proofs.Diff.{Diff, diff-self, diff-pos, diff-add, diff-minus, diff-leZ, leb-same}
 use Rattle.numbers.specs.Signed.{draw, gain}
 use Rattle.battery.specs.declared.Road.{Road}
-use Rattle.network.specs.Check.{recordsFault}
+use Rattle.network.specs.Claims.{NoClosedGain, CheckedPassing}
 use Rattle.network.specs.Files.{roadOf, potential, passes, Passing}
 use Rattle.network.specs.Walks.{Walk, stay, go, roadsOf, sumOf}
-use Rattle.network.specs.declared.Checked.the-variants.{Passed}
 use Rattle.network.proofs.Records.{all-sound}
 
 -- a road that passes, in naturals
@@ -54,13 +51,11 @@ along {ns} {rs} {v} a (go k h e t) =
     let g : gain (potential ns (r .tail)) ≡ gain (potential ns v) = ap (λ (u : ℕ). gain (potential ns u)) e in
     omega arith
 
--- the sum of the consumptions of a closed walk is 0 or more
-pub no-gain : {ns rs : List ℕ} {v : ℕ} {ks : List ℕ} → Passing ns rs → Walk rs v ks v → leZ (pos 0) (sumOf (roadsOf rs ks)) ≡ true
-no-gain {ns} {rs} {v} {ks} a w =
+pub no-closed-gain : NoClosedGain
+no-closed-gain ns rs v ks a w =
     let h = along a w in
     diff-leZ (diff-pos 0) (sum-is (roadsOf rs ks))
     ∙ le-leb (0 + gains (roadsOf rs ks)) (draws (roadsOf rs ks) + 0) (omega arith)
 
--- so a network that passes the check has none
-pub checked-no-gain : (ns rs : List ℕ) {v : ℕ} {ks : List ℕ} → recordsFault ns rs ≡ Passed → Walk rs v ks v → leZ (pos 0) (sumOf (roadsOf rs ks)) ≡ true
-checked-no-gain ns rs e w = no-gain {ns = ns} (record { pass = λ k h. all-sound ns rs e k h .passing }) w
+pub checked-passing : CheckedPassing
+checked-passing ns rs e = record { pass = λ k h. all-sound ns rs e k h .passing }

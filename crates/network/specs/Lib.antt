@@ -2,3 +2,4 @@ pub mod Files
 pub mod Refusals
 pub mod Check
 pub mod Walks
+pub mod Claims

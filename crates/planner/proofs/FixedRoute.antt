@@ -12,7 +12,8 @@ use lib.IntN.{ℤ, pos, negsuc}
 use lib.ListN.{length}
 use lib.Signed.{leZ}
 use Rattle.numbers.specs.Signed.{draw}
-use Rattle.battery.proofs.Monotone.{Rises, fixed-route}
+use Rattle.battery.proofs.Monotone.{fixed-route}
+use Rattle.battery.specs.Claims.{Rises}
 use Rattle.battery.specs.Drive.{driveAll}
 use Rattle.battery.specs.declared.Road.{Road}
 use Rattle.battery.specs.declared.Van.{Van}
@@ -30,6 +31,7 @@ use Rattle.routes.proofs.Low.{low-route}
 use Rattle.routes.specs.Places.{mostEntries}
 use Rattle.routes.specs.declared.Driven.the-variants as driven
 use Rattle.planner.specs.Checks.{beforeDrive}
+use Rattle.planner.specs.Claims.{NoLess, FixedRoute}
 use Rattle.planner.specs.Given.{driveNumbers}
 use Rattle.planner.specs.Order.{isBattery, isStart, vanOf, driveFault}
 use Rattle.planner.specs.Promises.{Drives}
@@ -112,12 +114,6 @@ draw-mono (pos a) (pos b) e = leb-true a b e
 draw-mono (pos a) (negsuc b) e = let z : _≡_ {A = ℕ} 0 1 = cc in absurd (omega arith)
 draw-mono (negsuc a) y e = omega arith
 
--- the second drives the route too; its arrival is no less, and more by at most the larger of the two increases
-pub record NoLess (q q' : DriveQuestion) (a b : DriveNumbers) : Type 0 where
-  pub drivable : b .number ≡ 0
-  pub no-less : a .arrival ≤ b .arrival
-  pub at-most : b .arrival ≤ a .arrival + max (draw (q' .battery) - draw (q .battery)) (draw (q' .start) - draw (q .start))
-
 second : {ns rs : List ℕ} {q q' : DriveQuestion} {es : List ℕ} {v : Van} {b : DriveNumbers} → Drives ns rs q' es b
     → Rises (draw (q .battery)) (draw (q' .battery)) (draw (q .start)) (draw (q' .start)) (roadsOf rs es) v
     → (b .number ≡ 0) ⊎ (b .number ≡ 14) → NoLess q q' (driveNumbers (driven.Arrived v)) b
@@ -126,17 +122,14 @@ second {ns} {rs} {q'} {es} (Drives.refused r f) t (inr n) =
     let z : _≡_ {A = ℕ} 0 1 = cc (low-drive ns rs q' es n f, t .drives) in
     absurd (omega arith)
 second (Drives.arrives w f h) t n =
-    let e : t .van ≡ w = cc (t .drives) in
+    let e : t .second ≡ w = cc (t .drives) in
     let k = ap (λ (u : Van). u .charge) e in
     record { drivable = refl; no-less = omega (arith, t .no-less); at-most = omega (arith, t .at-most) }
 
-pub fixed-drive : {ns rs ns' rs' : List ℕ} {q q' : DriveQuestion} {es es' : List ℕ} {a b : DriveNumbers}
-    → Drives ns rs q es a → Drives ns' rs' q' es' b
-    → roadsOf rs es ≡ roadsOf rs' es'
-    → leZ (q .battery) (q' .battery) ≡ true → leZ (q .start) (q' .start) ≡ true
-    → a .number ≡ 0 → (b .number ≡ 0) ⊎ (b .number ≡ 14)
-    → NoLess q q' a b
-fixed-drive (Drives.refused r e) d same m s z n = absurd (omega (arith, number-pos r))
-fixed-drive {rs' = rs'} {q} {q'} {es' = es'} (Drives.arrives v e g) d same m s z n =
+pub fixed-drive : FixedRoute
+fixed-drive ns rs ns' rs' q q' es es' a b (Drives.refused r e) d same m s z n = absurd (omega (arith, number-pos r))
+fixed-drive ns rs ns' rs' q q' es es' a b (Drives.arrives v e g) d same m s z n =
     let h = ap (driveAll (vanOf q)) (sym same) ∙ g in
-    second d (fixed-route (draw (q .battery)) (draw (q' .battery)) (draw (q .start)) (draw (q' .start)) (roadsOf rs' es') (draw-mono (q .battery) (q' .battery) m) (draw-mono (q .start) (q' .start) s) h) n
+    let battery-le = draw-mono (q .battery) (q' .battery) m in
+    let start-le = draw-mono (q .start) (q' .start) s in
+    second d (fixed-route (draw (q .battery)) (draw (q' .battery)) (draw (q .start)) (draw (q' .start)) (roadsOf rs' es') v battery-le start-le h) n

@@ -1,6 +1,5 @@
 -- Each promise leaves one possible outcome: any two outcomes allowed on the same input are equal. Assumes nothing.
 use mathlib.Core.Path.{_≡_, refl, sym, ap, _∙_}
-use mathlib.Core.List.{List}
 use Prim.Native.Nat.{ℕ}
 use native.Mathlib.Omega.{arith}
 use Rattle.battery.specs.declared.Profile.{Profile}
@@ -10,13 +9,9 @@ use Rattle.network.specs.declared.Checked.{Checked}
 use Rattle.network.specs.declared.Checked.the-variants.{Passed, Refused}
 use Rattle.routes.specs.declared.Driven.the-variants as driven
 use Rattle.routes.specs.declared.Profiled.the-variants as profiled
+use Rattle.planner.specs.Claims.{OneCheck, OneDrive, OneProfile}
 use Rattle.planner.specs.Given.{checkNumbers, driveNumbers, profileNumbers}
 use Rattle.planner.specs.Promises.{Checks, Drives, Profiles}
-use Rattle.planner.specs.declared.CheckNumbers.{CheckNumbers}
-use Rattle.planner.specs.declared.DriveNumbers.{DriveNumbers}
-use Rattle.planner.specs.declared.ProfileNumbers.{ProfileNumbers}
-use Rattle.planner.specs.declared.DriveQuestion.{DriveQuestion}
-use Rattle.planner.specs.declared.ProfileQuestion.{ProfileQuestion}
 
 same-refusal : {x : Checked} {r s : Refusal} → x ≡ Refused r → x ≡ Refused s → r ≡ s
 same-refusal e f = cc
@@ -24,20 +19,27 @@ same-refusal e f = cc
 not-both : {X : Type 0} {x : Checked} {r : Refusal} → x ≡ Passed → x ≡ Refused r → X
 not-both e f = let z : _≡_ {A = ℕ} 0 1 = cc in absurd (omega arith)
 
-pub one-check : {ns rs : List ℕ} {a b : CheckNumbers} → Checks ns rs a → Checks ns rs b → a ≡ b
-one-check (Checks.refused r e) (Checks.refused s f) = ap (λ (x : Refusal). checkNumbers (Refused x)) (same-refusal e f)
-one-check (Checks.refused r e) (Checks.sound f) = not-both f e
-one-check (Checks.sound e) (Checks.refused s f) = not-both e f
-one-check (Checks.sound e) (Checks.sound f) = refl
+pub one-check : OneCheck
+one-check ns rs a b (Checks.refused r e) (Checks.refused s f) =
+    ap (λ (x : Refusal). checkNumbers (Refused x)) (same-refusal e f)
+one-check ns rs a b (Checks.refused r e) (Checks.sound f) = not-both f e
+one-check ns rs a b (Checks.sound e) (Checks.refused s f) = not-both e f
+one-check ns rs a b (Checks.sound e) (Checks.sound f) = refl
 
-pub one-drive : {ns rs : List ℕ} {q : DriveQuestion} {es : List ℕ} {a b : DriveNumbers} → Drives ns rs q es a → Drives ns rs q es b → a ≡ b
-one-drive (Drives.refused r e) (Drives.refused s f) = ap (λ (x : Refusal). driveNumbers (driven.Refused x)) (same-refusal e f)
-one-drive (Drives.refused r e) (Drives.arrives w f h) = not-both f e
-one-drive (Drives.arrives v e g) (Drives.refused s f) = not-both e f
-one-drive (Drives.arrives v e g) (Drives.arrives w f h) = let p : v ≡ w = cc in ap (λ (u : Van). driveNumbers (driven.Arrived u)) p
+pub one-drive : OneDrive
+one-drive ns rs q es a b (Drives.refused r e) (Drives.refused s f) =
+    ap (λ (x : Refusal). driveNumbers (driven.Refused x)) (same-refusal e f)
+one-drive ns rs q es a b (Drives.refused r e) (Drives.arrives w f h) = not-both f e
+one-drive ns rs q es a b (Drives.arrives v e g) (Drives.refused s f) = not-both e f
+one-drive ns rs q es a b (Drives.arrives v e g) (Drives.arrives w f h) =
+    let p : v ≡ w = cc in
+    ap (λ (u : Van). driveNumbers (driven.Arrived u)) p
 
-pub one-profile : {ns rs : List ℕ} {q : ProfileQuestion} {es : List ℕ} {a b : ProfileNumbers} → Profiles ns rs q es a → Profiles ns rs q es b → a ≡ b
-one-profile (Profiles.refused r e) (Profiles.refused s f) = ap (λ (x : Refusal). profileNumbers (profiled.Refused x)) (same-refusal e f)
-one-profile (Profiles.refused r e) (Profiles.known p f h) = not-both f e
-one-profile (Profiles.known p e g) (Profiles.refused s f) = not-both e f
-one-profile (Profiles.known p e g) (Profiles.known q f h) = let d : p ≡ q = cc in ap (λ (u : Profile). profileNumbers (profiled.Known u)) d
+pub one-profile : OneProfile
+one-profile ns rs q es a b (Profiles.refused r e) (Profiles.refused s f) =
+    ap (λ (x : Refusal). profileNumbers (profiled.Refused x)) (same-refusal e f)
+one-profile ns rs q es a b (Profiles.refused r e) (Profiles.known p f h) = not-both f e
+one-profile ns rs q es a b (Profiles.known p e g) (Profiles.refused s f) = not-both e f
+one-profile ns rs q es a b (Profiles.known p e g) (Profiles.known p' f h) =
+    let d : p ≡ p' = cc in
+    ap (λ (u : Profile). profileNumbers (profiled.Known u)) d

@@ -1,4 +1,5 @@
 pub mod Given
 pub mod Order
 pub mod Promises
+pub mod Claims
 pub mod Checks

@@ -1,0 +1,62 @@
+-- What is proved of the rule, the drive and the profile, in document 01's words. The proofs are in proofs/.
+use mathlib.Core.Path.{_≡_}
+use mathlib.Core.List.{List, _++_}
+use Prim.Native.Nat.{ℕ, _+_, _-_, _≤_, _<_, min, max}
+use Rattle.battery.specs.Rule.{left}
+use Rattle.battery.specs.Drive.{fresh, driveAll}
+use Rattle.battery.specs.Profile.{profileOf, followedBy}
+use Rattle.battery.specs.declared.Road.{Road}
+use Rattle.battery.specs.declared.Van.{Van}
+use Rattle.battery.specs.declared.Drove.{Drove}
+use Rattle.battery.specs.declared.Drove.the-variants.{On, TooLow}
+use Rattle.battery.specs.declared.Profile.{Profile}
+use Rattle.battery.specs.declared.Passage.the-variants.{Passable, Impassable}
+
+-- start + recovered = arrival + drawn + spilled, for every driven route
+abbrev pub Balance : Type 0
+Balance =
+    (M b : ℕ) (rs : List Road) (v : Van) → driveAll (fresh M b) rs ≡ On v
+    → b + v .recovered ≡ v .charge + v .drawn + v .spilled
+
+-- the profile of a walk P followed by Q is the profile of P followed by that of Q, impassable where 01 says so
+abbrev pub Composition : Type 0
+Composition =
+    (M : ℕ) (ps qs : List Road) → profileOf M (ps ++ qs) ≡ followedBy (profileOf M ps) (profileOf M qs)
+
+-- a drive that arrives with the charge a
+pub record Arrives (came : Drove) (a : ℕ) : Type 0 where
+  pub van : Van
+  pub drives : came ≡ On van
+  pub charge-is : van .charge ≡ a
+
+-- below need the route cannot be driven; from need on the arrival is the smaller of top and start − sum
+pub record Agrees (M b : ℕ) (rs : List Road) (p : Profile) : Type 0 where
+  pub below : b < p .need → driveAll (fresh M b) rs ≡ TooLow
+  pub from : p .need ≤ b → Arrives (driveAll (fresh M b) rs) (min (p .top) (left b (p .sum)))
+
+-- for every start from 0 to M the profile's numbers and the drive agree
+abbrev pub Agreement : Type 0
+Agreement = (M b : ℕ) (rs : List Road) (p : Profile) → profileOf M rs ≡ Passable p → b ≤ M → Agrees M b rs p
+
+-- no start from 0 to M can drive the route
+abbrev pub Never : ℕ → List Road → Type 0
+Never M rs = (b : ℕ) → b ≤ M → driveAll (fresh M b) rs ≡ TooLow
+
+-- impassable exactly when no start can drive it
+pub record ImpassableExactly (M : ℕ) (rs : List Road) : Type 0 where
+  pub never : profileOf M rs ≡ Impassable → Never M rs
+  pub only : Never M rs → profileOf M rs ≡ Impassable
+
+-- a route that the first van drives, driven by a second one: it arrives with no less, and with more by at most the larger of
+-- the two increases
+pub record Rises (M M' b b' : ℕ) (rs : List Road) (first : Van) : Type 0 where
+  pub second : Van
+  pub drives : driveAll (fresh M' b') rs ≡ On second
+  pub no-less : first .charge ≤ second .charge
+  pub at-most : second .charge ≤ first .charge + max (M' - M) (b' - b)
+
+-- the drive of one fixed route is monotone in the battery size and in the start charge
+abbrev pub FixedRoute : Type 0
+FixedRoute =
+    (M M' b b' : ℕ) (rs : List Road) (first : Van) → M ≤ M' → b ≤ b' → driveAll (fresh M b) rs ≡ On first
+    → Rises M M' b b' rs first

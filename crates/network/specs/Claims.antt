@@ -1,0 +1,20 @@
+-- What is proved of the files and of walks, in document 01's words. The proofs are in proofs/.
+use mathlib.Core.Path.{_≡_}
+use mathlib.Core.Bool.{true}
+use mathlib.Core.List.{List}
+use Prim.Native.Nat.{ℕ}
+use lib.IntN.{pos}
+use lib.Signed.{leZ}
+use Rattle.network.specs.Check.{recordsFault}
+use Rattle.network.specs.Files.{Passing}
+use Rattle.network.specs.Walks.{Walk, roadsOf, sumOf}
+use Rattle.network.specs.declared.Checked.the-variants.{Passed}
+
+-- if all roads pass, no closed trip gains energy: its consumptions sum to 0 or more
+abbrev pub NoClosedGain : Type 0
+NoClosedGain =
+    (ns rs : List ℕ) (v : ℕ) (ks : List ℕ) → Passing ns rs → Walk rs v ks v → leZ (pos 0) (sumOf (roadsOf rs ks)) ≡ true
+
+-- all roads pass where no record fails
+abbrev pub CheckedPassing : Type 0
+CheckedPassing = (ns rs : List ℕ) → recordsFault ns rs ≡ Passed → Passing ns rs
