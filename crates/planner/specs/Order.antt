@@ -52,12 +52,12 @@ driveFault ns rs q es =
 
 -- profile: 1, 2, 3, 5 (source), 11, the records, then place by place 12, 13, 15
 unfoldable pub profileFault : List ℕ → List ℕ → ProfileQuestion → List ℕ → Checked
-profileFault ns rs q es =
+profileFault ns rs p es =
     firstOf
     (unless (junctionFile ns) JunctionFile ∷
     unless (roadFile rs) RoadFile ∷
-    unless (isBattery (q .battery)) Battery ∷
-    unless (isJunction ns (q .source)) NoJunction ∷
+    unless (isBattery (p .battery)) Battery ∷
+    unless (isJunction ns (p .source)) NoJunction ∷
     unless (isRoute es) LongRoute ∷
     recordsFault ns rs ∷
-    profileFaults rs (q .source) es (draw (q .battery)) ∷ [])
+    profileFaults rs (p .source) es (draw (p .battery)) ∷ [])
