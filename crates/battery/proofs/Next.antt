@@ -12,9 +12,9 @@ use mir.Val.{SFits, toZ, ofZ}
 use Rattle.numbers.specs.Signed.{draw, gain}
 use Rattle.numbers.proofs.Diff.{mag-le, mag-plus}
 use Rattle.numbers.proofs.Bits.{back64}
-use Rattle.battery.specs.Rule.{drivable}
+use Rattle.battery.specs.Rule.{mostBattery, mostConsumption, drivable}
 use Rattle.battery.specs.Profile.{roadProfile, oneRoad, joined, followedBy, pickPassage}
-use Rattle.battery.specs.Ready.{Extends, most}
+use Rattle.battery.specs.Ready.{Extends}
 use Rattle.battery.specs.declared.Road.{Road}
 use Rattle.battery.specs.declared.Profile.{Profile}
 use Rattle.battery.specs.declared.Passage.the-variants.{Passable, Impassable}
@@ -67,7 +67,7 @@ next-sum M p r {q} h e = go (decLe (draw (r .consumption)) (p .top))
 module _ {M : ℕ} {p : Profile} {r : Road} (E : Extends M p r) where
   pub used-fits : SFits w32 (r .consumption)
   used-fits =
-      let h = mag-le (r .consumption) most (E .ranged .draw-le) (E .ranged .gain-le) in
+      let h = mag-le (r .consumption) mostConsumption (E .ranged .draw-le) (E .ranged .gain-le) in
       record { sfits = omega arith }
 
   sum-mag : mag (p .sum) < 2 ^ 62 + 1
@@ -86,5 +86,5 @@ module _ {M : ℕ} {p : Profile} {r : Road} (E : Extends M p r) where
       let h = mag-plus (2 ^ 62 + 1) (2 ^ 31) (p .sum) (pos (draw (r .consumption))) sum-mag (omega arith) in
       record { sfits = omega arith }
 
-  pub reach-le : draw (r .consumption) ≤ p .top → draw (p .sum +ℤ pos (draw (r .consumption))) ≤ most
+  pub reach-le : draw (r .consumption) ≤ p .top → draw (p .sum +ℤ pos (draw (r .consumption))) ≤ mostBattery
   reach-le k = let e = draw-add (p .sum) (pos (draw (r .consumption))) in omega arith

@@ -1,23 +1,20 @@
 -- What the private steps of a drive and of a profile ask for so that no sum wraps. No promise cites this file.
 use Prim.Native.Nat.{ℕ, _≤_, _<_, _+_, _*_, _^_}
 use Rattle.numbers.specs.Signed.{draw, gain}
+use Rattle.battery.specs.Rule.{mostBattery, mostConsumption}
 use Rattle.battery.specs.declared.Road.{Road}
 use Rattle.battery.specs.declared.Van.{Van}
 use Rattle.battery.specs.declared.Profile.{Profile}
 
--- the largest battery size, and the largest size of a consumption
-abbrev pub most : ℕ
-most = 200000000
-
 -- a road's consumption lies in its range
 pub record Ranged (r : Road) : Type 0 where
-  pub draw-le : draw (r .consumption) ≤ most
-  pub gain-le : gain (r .consumption) ≤ most
+  pub draw-le : draw (r .consumption) ≤ mostConsumption
+  pub gain-le : gain (r .consumption) ≤ mostConsumption
 
 -- a van whose totals have room for one road more
 pub record Ready (v : Van) (r : Road) : Type 0 where
   pub ranged : Ranged r
-  pub battery-le : v .battery ≤ most
+  pub battery-le : v .battery ≤ mostBattery
   pub charge-le : v .charge ≤ v .battery
   pub drawn-lt : v .drawn < 2 ^ 62
   pub recovered-lt : v .recovered < 2 ^ 62
@@ -33,7 +30,7 @@ pub record Kept (M : ℕ) (p : Profile) : Type 0 where
 -- a profile that has room for one road more
 pub record Extends (M : ℕ) (p : Profile) (r : Road) : Type 0 where
   pub ranged : Ranged r
-  pub battery-le : M ≤ most
+  pub battery-le : M ≤ mostBattery
   pub kept : Kept M p
   pub sum-draw : draw (p .sum) < 2 ^ 62
   pub sum-gain : gain (p .sum) < 2 ^ 62

@@ -5,6 +5,13 @@ use lib.IntN.{ℤ, pos, _-ℤ_}
 use lib.Signed.{leZ}
 use Rattle.numbers.specs.Signed.{draw}
 
+-- the largest battery size, and the largest size of a consumption
+abbrev pub mostBattery : ℕ
+mostBattery = 200000000
+
+abbrev pub mostConsumption : ℕ
+mostConsumption = 200000000
+
 -- the road can be driven: c is no greater than b
 abbrev pub drivable : ℕ → ℤ → Bool
 drivable b c = leZ c (pos b)

@@ -5,7 +5,15 @@ ghost use Rattle.numbers.specs.Signed.{draw};
 ghost use Rattle.battery.specs.Drive.{fresh, drive};
 ghost use Rattle.battery.specs.Profile.{noRoads, followedBy, oneRoad};
 ghost use Rattle.battery.specs.declared.Passage.the-variants.{Passable};
-ghost use Rattle.battery.specs.Ready.{most, Ready, Extends};
+ghost use Rattle.battery.specs.Ready.{Ready, Extends};
+ghost use Rattle.battery.specs.Rule.{mostBattery};
+
+// The limits of document 01, in mWh.
+pub const MOST_BATTERY: i64 = 200000000;
+
+pub const MOST_CONSUMPTION: i32 = 200000000;
+
+pub const LEAST_CONSUMPTION: i32 = -200000000;
 
 // A road as its record has it.
 pub struct Road {
@@ -114,7 +122,7 @@ impl Profile {
 
 // The larger of need and reach, which may be negative.
 fn larger(need: u32, reach: i64) -> u32
-    requires { ⌜ draw reach ≤ most ⌝ }
+    requires { ⌜ draw reach ≤ mostBattery ⌝ }
     ensures { λ r. ⌜ r ≡ max need (draw reach) ⌝ }
 {
     if (need as i64) < reach {

@@ -8,6 +8,7 @@ use lib.IntN.{ℤ, pos, negℤ, _+ℤ_, _-ℤ_}
 use lib.ListN.{length}
 use lib.Signed.{leZ}
 use Rattle.numbers.specs.Bytes.{u16At, i32At}
+use Rattle.battery.specs.Rule.{mostConsumption}
 use Rattle.battery.specs.declared.Road.{Road}
 
 abbrev pub junctionBytes : ℕ
@@ -21,9 +22,6 @@ mostJunctions = 2048
 
 abbrev pub mostRoads : ℕ
 mostRoads = 8192
-
-abbrev pub mostConsumption : ℕ
-mostConsumption = 200000000
 
 -- how many records each file has
 abbrev pub junctions : List ℕ → ℕ

@@ -8,7 +8,7 @@ ghost use Rattle.network.specs.Refusals.{numberOf, placeOf};
 ghost use Rattle.network.specs.Check.{recordFault, recordsFault, checkFault};
 use battery::Road;
 
-// The limits of document 01.
+// The records of the two files, and how many there may be.
 pub const JUNCTION_BYTES: usize = 4;
 
 pub const ROAD_BYTES: usize = 8;
@@ -16,10 +16,6 @@ pub const ROAD_BYTES: usize = 8;
 pub const MOST_JUNCTIONS: usize = 2048;
 
 pub const MOST_ROADS: usize = 8192;
-
-pub const LEAST_CONSUMPTION: i32 = -200000000;
-
-pub const MOST_CONSUMPTION: i32 = 200000000;
 
 // Why a question is refused: 1 to 15 in document 01's order. A number is the record or the place in
 // the route.
@@ -195,8 +191,8 @@ fn potential_at(nodes: &[u8], v: usize) -> i32
 fn in_range(consumption: i32) -> bool
     ensures { λ r. ⌜ r ≡ inRange consumption ⌝ }
 {
-    if LEAST_CONSUMPTION <= consumption {
-        consumption <= MOST_CONSUMPTION
+    if battery::LEAST_CONSUMPTION <= consumption {
+        consumption <= battery::MOST_CONSUMPTION
     } else {
         false
     }

@@ -1,7 +1,7 @@
 // Numbers as the two files store them, and signed numbers taken apart into naturals.
 ghost use mathlib.Core.Path.{_≡_};
 ghost use mathlib.Core.Bool.{true};
-ghost use Prim.Native.Nat.{_+_, _*_, _≤_};
+ghost use Prim.Native.Nat.{_+_, _*_, _^_, _≤_, _<_};
 ghost use lib.IntN.{pos};
 ghost use lib.ListN.{length};
 ghost use lib.Signed.{leZ};
@@ -38,9 +38,9 @@ pub fn gained(x: i32) -> u32
     if x < 0 { (-1 - x) as u32 + 1 } else { 0 }
 }
 
-// A number of a question that is known to be from 0 to 200,000,000.
+// A number that is not below 0 and fits 32 bits.
 pub fn whole(x: i64) -> u32
-    requires { ⌜ (leZ (pos 0) x ≡ true) × (leZ x (pos 200000000) ≡ true) ⌝ }
+    requires { ⌜ (leZ (pos 0) x ≡ true) × (draw x < 2 ^ 32) ⌝ }
     ensures { λ r. ⌜ r ≡ draw x ⌝ }
 {
     x as u32

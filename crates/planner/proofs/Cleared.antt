@@ -12,7 +12,8 @@ use mir.Syntax.{w64}
 use mir.Val.{toZ, ofZ}
 use Rattle.numbers.proofs.Bits.{back64}
 use Rattle.numbers.specs.Signed.{draw, gain}
-use Rattle.battery.specs.Ready.{Ranged, most}
+use Rattle.battery.specs.Ready.{Ranged}
+use Rattle.battery.specs.Rule.{mostBattery, mostConsumption}
 use Rattle.battery.specs.declared.Road.{Road}
 use Rattle.network.proofs.Faults.{each-passed, unless-passed, both-true}
 use Rattle.network.proofs.Records.{all-sound}
@@ -27,46 +28,46 @@ use Rattle.planner.specs.Order.{isBattery, isStart}
 use Rattle.planner.specs.declared.DriveQuestion.{DriveQuestion}
 use Rattle.planner.specs.declared.ProfileQuestion.{ProfileQuestion}
 
--- a number of a question that is a natural, at most `most`
+-- a number of a question that is a natural, at most mostBattery
 pub record Whole (z : ℤ) : Type 0 where
   pub from-0 : leZ (pos 0) z ≡ true
-  pub up-to : leZ z (pos most) ≡ true
-  pub draw-le : draw z ≤ most
+  pub draw-le : draw z ≤ mostBattery
 
 -- the same of its bits, which `whole` is asked for
 pub whole-bits : {z : ℤ} → mag z < 2 ^ 63 → Whole z
-    → (leZ (pos 0) (toZ w64 (ofZ w64 z)) ≡ true) × (leZ (toZ w64 (ofZ w64 z)) (pos most) ≡ true)
+    → (leZ (pos 0) (toZ w64 (ofZ w64 z)) ≡ true) × (draw (toZ w64 (ofZ w64 z)) < 2 ^ 32)
 whole-bits {z} h w =
     let b = back64 {z = z} h in
-    (ap (leZ (pos 0)) b ∙ w .from-0, ap (λ (y : ℤ). leZ y (pos most)) b ∙ w .up-to)
+    let d = ap draw b in
+    (ap (leZ (pos 0)) b ∙ w .from-0, omega (arith, w .draw-le))
 
 -- 3
 pub battery-whole : (m : ℤ) → isBattery m ≡ true → Whole m
 battery-whole (pos n) e =
-    let h = leb-true n most (both-true (leZ (pos 1) (pos n)) (leb n most) e .1) in
-    record { from-0 = le-leb 0 n (omega arith); up-to = le-leb n most h; draw-le = h }
+    let h = leb-true n mostBattery (both-true (leZ (pos 1) (pos n)) (leb n mostBattery) e .1) in
+    record { from-0 = le-leb 0 n (omega arith); draw-le = h }
 battery-whole (negsuc n) e = let z : _≡_ {A = ℕ} 0 1 = cc in absurd (omega arith)
 
 -- 4
 pub start-whole : (m b : ℤ) → isBattery m ≡ true → isStart m b ≡ true → Whole b × (draw b ≤ draw m)
 start-whole (pos n) (pos k) e f =
-    let h = leb-true n most (both-true (leZ (pos 1) (pos n)) (leb n most) e .1) in
+    let h = leb-true n mostBattery (both-true (leZ (pos 1) (pos n)) (leb n mostBattery) e .1) in
     let g = leb-true k n (both-true (leZ (pos 0) (pos k)) (leb k n) f .1) in
-    (record { from-0 = le-leb 0 k (omega arith); up-to = le-leb k most (omega arith); draw-le = omega arith }, g)
+    (record { from-0 = le-leb 0 k (omega arith); draw-le = omega arith }, g)
 start-whole (pos n) (negsuc k) e f = let z : _≡_ {A = ℕ} 0 1 = cc in absurd (omega arith)
 start-whole (negsuc n) b e f = let z : _≡_ {A = ℕ} 0 1 = cc in absurd (omega arith)
 
 -- 8 of all records
 road-ranged : (r : Road) → inRange (r .consumption) ≡ true → Ranged r
 road-ranged r e =
-    let b = both-true (leZ (negℤ (pos most)) (r .consumption)) (leZ (r .consumption) (pos most)) e in
+    let b = both-true (leZ (negℤ (pos mostConsumption)) (r .consumption)) (leZ (r .consumption) (pos mostConsumption)) e in
     record { draw-le = d (r .consumption) (b .1); gain-le = g (r .consumption) (b .0) }
   where
-    d : (c : ℤ) → leZ c (pos most) ≡ true → draw c ≤ most
-    d (pos n) h = leb-true n most h
+    d : (c : ℤ) → leZ c (pos mostConsumption) ≡ true → draw c ≤ mostConsumption
+    d (pos n) h = leb-true n mostConsumption h
     d (negsuc n) h = omega arith
 
-    g : (c : ℤ) → leZ (negℤ (pos most)) c ≡ true → gain c ≤ most
+    g : (c : ℤ) → leZ (negℤ (pos mostConsumption)) c ≡ true → gain c ≤ mostConsumption
     g (pos n) h = omega arith
     g (negsuc n) h = let k = leb-true n 199999999 h in omega arith
 

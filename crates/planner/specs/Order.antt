@@ -9,6 +9,7 @@ use lib.ListN.{length}
 use lib.Signed.{leZ}
 use Rattle.numbers.specs.Signed.{draw}
 use Rattle.battery.specs.Drive.{fresh}
+use Rattle.battery.specs.Rule.{mostBattery}
 use Rattle.battery.specs.declared.Van.{Van}
 use Rattle.network.specs.Check.{unless, firstOf, recordsFault}
 use Rattle.network.specs.Files.{junctionFile, roadFile, isJunction}
@@ -17,9 +18,6 @@ use Rattle.network.specs.declared.Refusal.the-variants.{JunctionFile, RoadFile,
 use Rattle.routes.specs.Places.{mostEntries, driveFaults, profileFaults}
 use Rattle.planner.specs.declared.DriveQuestion.{DriveQuestion}
 use Rattle.planner.specs.declared.ProfileQuestion.{ProfileQuestion}
-
-abbrev pub mostBattery : ℕ
-mostBattery = 200000000
 
 -- 3: battery size in 1 to 200,000,000
 abbrev pub isBattery : ℤ → Bool

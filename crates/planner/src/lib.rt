@@ -14,9 +14,6 @@ use network::Refusal;
 use routes::Driven;
 use routes::Profiled;
 
-// The largest battery size, in mWh.
-pub const MOST_BATTERY: i64 = 200000000;
-
 // What a drive is asked for: battery size and start charge in mWh, and where it sets out.
 pub struct DriveQuestion {
     pub battery: i64,
@@ -204,7 +201,7 @@ fn is_battery(battery: i64) -> bool
     ensures { λ r. ⌜ r ≡ isBattery battery ⌝ }
 {
     if 1 <= battery {
-        battery <= MOST_BATTERY
+        battery <= battery::MOST_BATTERY
     } else {
         false
     }

@@ -9,7 +9,8 @@ use Rattle.battery.proofs.Compose.{compose-one}
 use Rattle.battery.proofs.Join.{draw-add, gain-add, none-kept, profile-kept}
 use Rattle.battery.proofs.Next.{next-sum}
 use Rattle.battery.specs.Profile.{noRoads, followedBy, oneRoad, profileOf}
-use Rattle.battery.specs.Ready.{Ranged, Kept, Extends, most}
+use Rattle.battery.specs.Ready.{Ranged, Kept, Extends}
+use Rattle.battery.specs.Rule.{mostBattery}
 use Rattle.battery.specs.declared.Road.{Road}
 use Rattle.battery.specs.declared.Profile.{Profile}
 use Rattle.battery.specs.declared.Passage.{Passage}
@@ -45,7 +46,7 @@ pub record Profiling (rs : List ℕ) (source : ℕ) (es : List ℕ) (M at : ℕ)
   pub known : profileOf M (roadsOf rs (take i es)) ≡ passage.Passable p
   pub gathered : Gathered M i p
 
-pub profiling-start : (rs : List ℕ) (source : ℕ) (es : List ℕ) (M : ℕ) → M ≤ most → Profiling rs source es M source (noRoads M) 0
+pub profiling-start : (rs : List ℕ) (source : ℕ) (es : List ℕ) (M : ℕ) → M ≤ mostBattery → Profiling rs source es M source (noRoads M) 0
 unfolding profileOf
 profiling-start rs source es M h =
     record {

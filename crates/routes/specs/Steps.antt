@@ -8,7 +8,8 @@ use lib.ListN.{length}
 use Rattle.numbers.specs.Signed.{draw, gain}
 use Rattle.battery.specs.Drive.{drive, driveAll}
 use Rattle.battery.specs.Profile.{followedBy, oneRoad, profileOf}
-use Rattle.battery.specs.Ready.{Ranged, Kept, most}
+use Rattle.battery.specs.Ready.{Ranged, Kept}
+use Rattle.battery.specs.Rule.{mostBattery, mostConsumption}
 use Rattle.battery.specs.declared.Passage.{Passage}
 use Rattle.battery.specs.declared.Passage.the-variants as passage
 use Rattle.battery.specs.declared.Profile.{Profile}
@@ -52,11 +53,11 @@ enters rs e i at =
 
 -- a van after i roads
 pub record Bounded (i : ℕ) (v : Van) : Type 0 where
-  pub battery-le : v .battery ≤ most
+  pub battery-le : v .battery ≤ mostBattery
   pub charge-le : v .charge ≤ v .battery
-  pub drawn-le : v .drawn ≤ i * most
-  pub recovered-le : v .recovered ≤ i * most
-  pub spilled-le : v .spilled ≤ i * most
+  pub drawn-le : v .drawn ≤ i * mostConsumption
+  pub recovered-le : v .recovered ≤ i * mostConsumption
+  pub spilled-le : v .spilled ≤ i * mostConsumption
 
 pub record PlaceAsks (rs : List ℕ) (i : ℕ) (v : Van) : Type 0 where
   pub roads-ranged : RangedRoads rs
@@ -88,10 +89,10 @@ DriveKeeps rs es source v (driven.Refused r) = driveFaults rs source es v ≡ ch
 
 -- a profile of i roads, whose sum has room for one more
 pub record Gathered (M i : ℕ) (p : Profile) : Type 0 where
-  pub battery-le : M ≤ most
+  pub battery-le : M ≤ mostBattery
   pub kept : Kept M p
-  pub draw-le : draw (p .sum) ≤ i * most
-  pub gain-le : gain (p .sum) ≤ i * most
+  pub draw-le : draw (p .sum) ≤ i * mostConsumption
+  pub gain-le : gain (p .sum) ≤ i * mostConsumption
 
 pub record ExtendAsks (rs : List ℕ) (i M : ℕ) (p : Profile) : Type 0 where
   pub roads-ranged : RangedRoads rs
@@ -112,7 +113,7 @@ profilePlace rs e i at M p = extendEntered (enters rs e i at) M p i
 pub record ProfileAsks (rs es : List ℕ) (M : ℕ) : Type 0 where
   pub roads-ranged : RangedRoads rs
   pub entries-le : length es ≤ mostEntries
-  pub battery-le : M ≤ most
+  pub battery-le : M ≤ mostBattery
 
 abbrev pub ProfileKeeps : List ℕ → List ℕ → ℕ → ℕ → Profiled → Type 0
 ProfileKeeps rs es source M (profiled.Known p) =

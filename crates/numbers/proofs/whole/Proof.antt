@@ -1,10 +1,6 @@
 -- `numbers::whole` meets its contract: the number is not below 0, so its bits are the number itself. Assumes nothing.
 use mathlib.Core.Path.{_≡_, _∙_, ap}
-use Prim.Native.Nat.{ℕ, _≤_}
-use native.Mathlib.Omega.{arith}
-use borrow.Author.Tests.{leb-true}
-use lib.IntN.{ℤ, pos, natAbs}
-use lib.Signed.{leZ}
+use lib.IntN.{pos, natAbs}
 use mir.Facts.{toZ-ofZ}
 use mir.Syntax.{w64}
 use mir.Val.{toZ, ofZ}
@@ -16,13 +12,8 @@ use Rattle.numbers.proofs.whole.Tie as tie
 is : (c : tie.Start) → toZ w64 (ofZ w64 (c .args .x)) ≡ pos (draw (c .args .x))
 is c = toZ-ofZ (c .fits .x) ∙ from-zero (c .args .x) (c .pre .0)
 
-small : (c : tie.Start) → draw (c .args .x) ≤ 200000000
-small c = leb-true _ _ (rw (from-zero (c .args .x) (c .pre .0)) at (c .pre .1))
-
 cast-result : tie.Need-cast-result
-cast-result c =
-    let h = small c in
-    simp (is c) (tt, record { fits = omega arith })
+cast-result c = simp (is c) (tt, record { fits = c .pre .1 })
 
 returns : tie.Need-returns
 returns c = ap natAbs (is c)
