@@ -4,14 +4,13 @@ use mathlib.Core.Path.{_≡_, refl}
 use mathlib.Core.List.{List}
 use Prim.Native.Nat.{ℕ, _≤_, _<_, min}
 use native.Mathlib.Omega.{arith}
-use Rattle.battery.specs.Claims.{Arrives, Agrees, Agreement, Never, ImpassableExactly}
+use Rattle.battery.specs.Claims.{Arrives, Agreement, Never, ImpassableExactly}
 use Rattle.battery.specs.Rule.{left}
-use Rattle.battery.specs.Drive.{fresh, driveAll}
+use Rattle.battery.specs.Drive.{fresh}
 use Rattle.battery.specs.Profile.{profileOf}
 use Rattle.battery.specs.declared.Road.{Road}
-use Rattle.battery.specs.declared.Van.{Van}
 use Rattle.battery.specs.declared.Drove.{Drove}
-use Rattle.battery.specs.declared.Drove.the-variants.{On, TooLow}
+use Rattle.battery.specs.declared.Drove.the-variants.{TooLow}
 use Rattle.battery.specs.declared.Profile.{Profile}
 use Rattle.battery.specs.declared.Passage.{Passage}
 use Rattle.battery.specs.declared.Passage.the-variants.{Passable, Impassable}

@@ -2,10 +2,9 @@
 -- larger of the two increases. Assumes nothing.
 use mathlib.Core.Path.{_≡_, refl, subst}
 use mathlib.Core.List.{List, [], _∷_}
-use Prim.Native.Nat.{ℕ, _+_, _-_, _≤_, _<_, max}
+use Prim.Native.Nat.{ℕ, _+_, _-_, _≤_, max}
 use native.Mathlib.Omega.{arith}
-use Rattle.numbers.specs.Signed.{draw}
-use Rattle.battery.specs.Claims.{Rises, FixedRoute}
+use Rattle.battery.specs.Claims.{FixedRoute}
 use Rattle.battery.specs.Drive.{fresh, drive, driveAll, andThen}
 use Rattle.battery.specs.declared.Road.{Road}
 use Rattle.battery.specs.declared.Van.{Van}

@@ -1,5 +1,5 @@
 -- What the private steps of a drive and of a profile ask for so that no sum wraps. No promise cites this file.
-use Prim.Native.Nat.{ℕ, _≤_, _<_, _+_, _*_, _^_}
+use Prim.Native.Nat.{ℕ, _≤_, _<_, _+_, _^_}
 use Rattle.numbers.specs.Signed.{draw, gain}
 use Rattle.battery.specs.Rule.{mostBattery, mostConsumption}
 use Rattle.battery.specs.declared.Road.{Road}

@@ -82,6 +82,13 @@ from-passed f (suc n) j k e h l =
 pub all-passed : (f : ℕ → Checked) (n : ℕ) → firstFrom f n 0 ≡ Passed → (k : ℕ) → k < n → f k ≡ Passed
 all-passed f n e k h = from-passed f n 0 k e (omega arith) (omega arith)
 
+pub none-fails : (f : ℕ → Checked) (n k : ℕ) → ((j : ℕ) → k ≤ j → j < k + n → f j ≡ Passed) → firstFrom f n k ≡ Passed
+unfolding firstFrom
+none-fails f zero k h = refl
+none-fails f (suc n) k h =
+    ap (λ (c : Checked). first c (firstFrom f n (k + 1))) (h k (omega arith) (omega arith))
+    ∙ none-fails f n (k + 1) (λ j a b. h j (omega arith) (omega arith))
+
 -- ---- where a place fails
 
 pub record Found (f : ℕ → Checked) (r : Refusal) : Type 0 where

@@ -1,6 +1,6 @@
 -- From ℤ to ℕ, where omega works. `Diff z a b` says that z is a − b. Each law takes differences to a difference, and the
 -- last ones turn an order or an equation of ℤ into one of ℕ. Assumes nothing.
-use mathlib.Core.Path.{_≡_, refl, sym, ap, _∙_}
+use mathlib.Core.Path.{_≡_, refl, sym, ap}
 use mathlib.Core.Bool.{Bool, true, false, cond}
 use Prim.Native.Nat.{ℕ, zero, suc, _+_, _-_, _<_, _≤_}
 use native.Mathlib.Omega.{arith}

@@ -1,7 +1,7 @@
 -- From the tests and the route's outcome to each entry's promise. Assumes nothing.
-use mathlib.Core.Path.{_≡_, sym, ap, _∙_}
+use mathlib.Core.Path.{_≡_, ap, _∙_}
 use mathlib.Core.List.{List, [], _∷_}
-use Prim.Native.Nat.{ℕ, _≤_}
+use Prim.Native.Nat.{ℕ}
 use native.Mathlib.Omega.{arith}
 use lib.ListN.{length}
 use Rattle.numbers.specs.Signed.{draw}
@@ -11,7 +11,7 @@ use Rattle.network.specs.declared.Refusal.{Refusal}
 use Rattle.network.specs.declared.Checked.{Checked}
 use Rattle.network.specs.declared.Checked.the-variants as checked
 use Rattle.routes.specs.Places.{driveFaults, profileFaults}
-use Rattle.routes.specs.Steps.{Bounded, DriveAsks, DriveKeeps, ProfileAsks, ProfileKeeps}
+use Rattle.routes.specs.Steps.{DriveAsks, DriveKeeps, ProfileAsks, ProfileKeeps}
 use Rattle.routes.specs.declared.Driven.{Driven}
 use Rattle.routes.specs.declared.Driven.the-variants as driven
 use Rattle.routes.specs.declared.Profiled.{Profiled}

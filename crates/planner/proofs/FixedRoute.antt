@@ -1,10 +1,10 @@
 -- Demand 3 on one fixed route, of the outcomes of the drive entry. Two queries, each with files and a list of road numbers of
 -- its own, whose roads agree place by place in ends and consumption. Assumes nothing.
-use mathlib.Core.Path.{_≡_, refl, sym, ap, _∙_, subst}
+use mathlib.Core.Path.{_≡_, refl, sym, ap, _∙_}
 use mathlib.Core.Bool.{Bool, true, false, _&&_}
 use mathlib.Core.List.{List, [], _∷_}
 use mathlib.Core.Logic.{_⊎_, inl, inr}
-use Prim.Native.Nat.{ℕ, zero, suc, _+_, _-_, _≤_, _<_, max}
+use Prim.Native.Nat.{ℕ, zero, suc, _+_, _≤_, _<_}
 use native.Mathlib.Omega.{arith}
 use borrow.Author.Tests.{leb-true}
 use lib.Dec.{leb}
@@ -17,7 +17,7 @@ use Rattle.battery.specs.Claims.{Rises}
 use Rattle.battery.specs.Drive.{driveAll}
 use Rattle.battery.specs.declared.Road.{Road}
 use Rattle.battery.specs.declared.Van.{Van}
-use Rattle.battery.specs.declared.Drove.the-variants.{On, TooLow}
+use Rattle.battery.specs.declared.Drove.the-variants.{TooLow}
 use Rattle.network.proofs.Faults.{number-pos}
 use Rattle.network.specs.Check.{unless, first, firstOf, firstFrom, recordFault}
 use Rattle.network.specs.Files.{roadCount, roadOf, potential, junctionFile, roadFile, isJunction, inRange, passes}

@@ -1,5 +1,5 @@
 -- Each promise leaves one possible outcome: any two outcomes allowed on the same input are equal. Assumes nothing.
-use mathlib.Core.Path.{_≡_, refl, sym, ap, _∙_}
+use mathlib.Core.Path.{_≡_, refl, ap}
 use Prim.Native.Nat.{ℕ}
 use native.Mathlib.Omega.{arith}
 use Rattle.battery.specs.declared.Profile.{Profile}

@@ -1,8 +1,6 @@
 -- Numbers given back: document 01's number and values of each answer. A success has number 0 and place 0; a refusal has its
 -- number and place, and zero for all other numbers.
 use lib.IntN.{pos}
-use Rattle.battery.specs.declared.Profile.{Profile}
-use Rattle.battery.specs.declared.Van.{Van}
 use Rattle.network.specs.Refusals.{numberOf, placeOf}
 use Rattle.network.specs.declared.Checked.{Checked}
 use Rattle.network.specs.declared.Checked.the-variants as checked

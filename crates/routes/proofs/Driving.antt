@@ -1,7 +1,7 @@
 -- The drive of a route, place by place: what is known on the way, and how it goes on. Assumes nothing.
-use mathlib.Core.Path.{_≡_, refl, sym, ap, _∙_, subst}
-use mathlib.Core.List.{List, [], _∷_, _++_}
-use Prim.Native.Nat.{ℕ, _+_, _*_, _≤_, _<_}
+use mathlib.Core.Path.{_≡_, refl, ap, _∙_, subst}
+use mathlib.Core.List.{List}
+use Prim.Native.Nat.{ℕ, _+_, _<_}
 use native.Mathlib.Omega.{arith}
 use lib.ListN.{length, take}
 use Rattle.battery.proofs.Drive.{Went, went, drive-all-snoc}
@@ -13,9 +13,6 @@ use Rattle.battery.specs.declared.Drove.{Drove}
 use Rattle.battery.specs.declared.Drove.the-variants as drove
 use Rattle.network.specs.Files.{roadOf}
 use Rattle.network.specs.Walks.{roadsOf}
-use Rattle.network.specs.declared.Refusal.{Refusal}
-use Rattle.network.specs.declared.Refusal.the-variants as refusal
-use Rattle.network.specs.declared.Checked.{Checked}
 use Rattle.network.specs.declared.Checked.the-variants as checked
 use Rattle.routes.specs.Places.{entryAt, upTo, lowFault, driveFaults}
 use Rattle.routes.specs.Steps.{RangedRoads, Bounded, PlaceAsks, enters, onDrove, onEntered, drivePlace}
@@ -23,7 +20,7 @@ use Rattle.routes.specs.declared.Entered.{Entered}
 use Rattle.routes.specs.declared.Entered.the-variants as entered
 use Rattle.routes.specs.declared.DriveStep.{DriveStep}
 use Rattle.routes.specs.declared.DriveStep.the-variants as step
-use Rattle.routes.proofs.Places.{Enters, entered-road, Standing, standing-on, standing-refused, standing-last, standing-end, standing-start, up-to-is, all-roads}
+use Rattle.routes.proofs.Places.{entered-road, Standing, standing-on, standing-refused, standing-last, standing-start, up-to-is}
 
 -- the van is ready for a road that it enters
 pub ready : (rs : List ℕ) (e i at : ℕ) {v : Van} {r : Road} → PlaceAsks rs i v → enters rs e i at ≡ entered.Road r → Ready v r

@@ -1,4 +1,6 @@
 mod Places
 mod Driving
 mod Profiling
+mod Walking
+pub mod Exactly
 pub mod Low

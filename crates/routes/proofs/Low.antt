@@ -1,27 +1,26 @@
 -- A route that is refused with 14 cannot be driven. Assumes nothing.
-use mathlib.Core.Path.{_≡_, refl, sym, ap, _∙_}
+use mathlib.Core.Path.{_≡_, refl, ap, _∙_}
 use mathlib.Core.Bool.{Bool, true, false}
-use mathlib.Core.List.{List, [], _∷_, _++_}
-use Prim.Native.Nat.{ℕ, suc, _+_}
+use mathlib.Core.List.{List}
+use Prim.Native.Nat.{ℕ, _+_}
 use native.Mathlib.Omega.{arith}
 use lib.Dec.{ltb, eqb}
-use lib.ListN.{length, take, drop, take-append-drop}
+use lib.ListN.{length, drop}
 use Rattle.battery.proofs.Drive.{drive-all-append}
 use Rattle.battery.specs.Drive.{driveAll, andThen}
 use Rattle.battery.specs.declared.Van.{Van}
 use Rattle.battery.specs.declared.Drove.{Drove}
 use Rattle.battery.specs.declared.Drove.the-variants as drove
-use Rattle.network.proofs.Faults.{Found, from-found}
+use Rattle.network.proofs.Faults.{from-found}
 use Rattle.network.specs.Check.{unless, first}
 use Rattle.network.specs.Files.{roadCount, roadOf}
 use Rattle.network.specs.Refusals.{numberOf}
 use Rattle.network.specs.Walks.{roadsOf}
 use Rattle.network.specs.declared.Refusal.{Refusal}
 use Rattle.network.specs.declared.Refusal.the-variants as refusal
-use Rattle.network.specs.declared.Checked.{Checked}
 use Rattle.network.specs.declared.Checked.the-variants as checked
 use Rattle.routes.specs.Places.{entryAt, standsAt, upTo, placeFault, lowFault, driveFaults}
-use Rattle.routes.proofs.Places.{map-append}
+use Rattle.routes.proofs.Places.{split}
 
 clash : {X : Type 0} {r s : Refusal} → numberOf r ≡ 14 → (numberOf s ≡ 14 → ⊥) → checked.Refused s ≡ checked.Refused r → X
 clash {r} {s} n d e = let p : s ≡ r = cc in absurd (d (ap numberOf p ∙ n))
@@ -46,8 +45,7 @@ place-low rs source es i d {r} n e =
 -- what cannot be driven up to a place cannot be driven
 whole : (rs es : List ℕ) (v : Van) (i : ℕ) → driveAll v (upTo rs es i) ≡ drove.TooLow → driveAll v (roadsOf rs es) ≡ drove.TooLow
 whole rs es v i e =
-    sym (ap (λ (l : List ℕ). driveAll v (roadsOf rs l)) (take-append-drop (i + 1) es))
-    ∙ ap (driveAll v) (map-append rs (take (i + 1) es) (drop (i + 1) es))
+    ap (driveAll v) (split rs es i)
     ∙ drive-all-append v (upTo rs es i) (roadsOf rs (drop (i + 1) es))
     ∙ ap (λ (d : Drove). andThen d (λ w. driveAll w (roadsOf rs (drop (i + 1) es)))) e
 

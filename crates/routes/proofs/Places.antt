@@ -1,13 +1,13 @@
 -- A route gone along place by place: what is known where the van stands before place i, and how it goes on. Assumes nothing.
 use mathlib.Core.Path.{_≡_, refl, sym, ap, _∙_}
 use mathlib.Core.Bool.{Bool, true, false}
-use mathlib.Core.List.{List, [], _∷_, _++_, map}
-use Prim.Native.Nat.{ℕ, suc, _+_, _-_, _≤_, _<_}
+use mathlib.Core.List.{List, [], _∷_, _++_}
+use Prim.Native.Nat.{ℕ, _+_, _-_, _≤_, _<_}
 use native.Mathlib.Numerals.{add-one}
 use native.Mathlib.Omega.{arith}
 use borrow.Author.Tests.{ltb-true, eqb-true}
 use lib.Dec.{ltb, eqb}
-use lib.ListN.{length, take}
+use lib.ListN.{length, take, drop, take-append-drop}
 use lib.Seq.{take-suc, take-all}
 use Rattle.battery.specs.declared.Road.{Road}
 use Rattle.network.proofs.Faults.{first-end, from-go, from-stop, from-end}
@@ -107,7 +107,7 @@ standing-start rs source es last =
 
 -- ---- the roads of the first places
 
-pub map-append : (rs xs ys : List ℕ) → roadsOf rs (xs ++ ys) ≡ roadsOf rs xs ++ roadsOf rs ys
+map-append : (rs xs ys : List ℕ) → roadsOf rs (xs ++ ys) ≡ roadsOf rs xs ++ roadsOf rs ys
 map-append rs [] ys = refl
 map-append rs (x ∷ xs) ys = ap (λ (l : List Road). roadOf rs x ∷ l) (map-append rs xs ys)
 
@@ -119,3 +119,7 @@ up-to-is rs es i h =
 
 pub all-roads : (rs es : List ℕ) (i : ℕ) → length es ≤ i → roadsOf rs (take i es) ≡ roadsOf rs es
 all-roads rs es i h = ap (roadsOf rs) (take-all i es h)
+
+-- the roads of a route: those up to a place, and the rest
+pub split : (rs es : List ℕ) (i : ℕ) → roadsOf rs es ≡ upTo rs es i ++ roadsOf rs (drop (i + 1) es)
+split rs es i = ap (roadsOf rs) (sym (take-append-drop (i + 1) es)) ∙ map-append rs (take (i + 1) es) (drop (i + 1) es)

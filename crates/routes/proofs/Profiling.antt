@@ -1,7 +1,7 @@
 -- The profile of a route, place by place: what is known on the way, and how it goes on. Assumes nothing.
-use mathlib.Core.Path.{_≡_, refl, sym, ap, _∙_, subst}
+use mathlib.Core.Path.{_≡_, refl, ap, _∙_, subst}
 use mathlib.Core.List.{List}
-use Prim.Native.Nat.{ℕ, _+_, _*_, _≤_, _<_}
+use Prim.Native.Nat.{ℕ, _+_, _≤_, _<_}
 use native.Mathlib.Omega.{arith}
 use lib.ListN.{length, take}
 use Rattle.numbers.specs.Signed.{draw, gain}
@@ -9,7 +9,7 @@ use Rattle.battery.proofs.Compose.{compose-one}
 use Rattle.battery.proofs.Join.{draw-add, gain-add, none-kept, profile-kept}
 use Rattle.battery.proofs.Next.{next-sum}
 use Rattle.battery.specs.Profile.{noRoads, followedBy, oneRoad, profileOf}
-use Rattle.battery.specs.Ready.{Ranged, Kept, Extends}
+use Rattle.battery.specs.Ready.{Ranged, Extends}
 use Rattle.battery.specs.Rule.{mostBattery}
 use Rattle.battery.specs.declared.Road.{Road}
 use Rattle.battery.specs.declared.Profile.{Profile}

@@ -2,7 +2,7 @@
 use mathlib.Core.Path.{sym, _∙_}
 use borrow.Author.Needs.{needs}
 use borrow.Author.Tests.{not-true, not-false}
-use Rattle.network.specs.Check.{checkFault, firstOf}
+use Rattle.network.specs.Check.{checkFault}
 use Rattle.network.proofs.Faults.{first-end}
 use Rattle.network.proofs.check.Statement.{statement}
 use Rattle.network.proofs.check.Tie as tie

@@ -2,11 +2,9 @@
 -- to. The measure is the number of records left. Assumes nothing.
 use mathlib.Core.Path.{_≡_, sym, ap, _∙_}
 use mathlib.Core.List.{List}
-use Prim.Native.Nat.{ℕ, _≤_, _-_, _+_}
+use Prim.Native.Nat.{ℕ, _≤_, _-_}
 use native.Mathlib.Omega.{arith}
 use borrow.Author.Needs.{needs}
-use lib.ListN.{length}
-use Rattle.battery.specs.declared.Road.{Road}
 use Rattle.network.specs.Check.{firstFrom, recordFault, recordsFault}
 use Rattle.network.specs.Files.{roadCount, roadOf}
 use Rattle.network.specs.declared.Checked.{Checked}

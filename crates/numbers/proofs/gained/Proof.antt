@@ -1,12 +1,12 @@
 use mathlib.Core.Path.{_≡_, sym, ap, _∙_}
-use Prim.Native.Nat.{ℕ, _<_, _+_, _-_, _^_, _≤_}
+use Prim.Native.Nat.{_-_, _^_, _≤_}
 use native.Mathlib.Omega.{arith}
-use mathlib.Core.Bool.{Bool, true, false}
-use lib.IntN.{ℤ, pos, negsuc, _-ℤ_, natAbs}
+use mathlib.Core.Bool.{true}
+use lib.IntN.{ℤ, pos, negsuc, _-ℤ_}
 use lib.Signed.{ltZ}
 use mir.Facts.{toZ-ofZ}
 use mir.Syntax.{w32}
-use mir.Val.{toZ, ofZ, SFits}
+use mir.Val.{toZ, ofZ}
 use Rattle.numbers.proofs.Diff.{gain-le, negative, negative-gain, nonneg-gain}
 use Rattle.numbers.specs.Signed.{gain}
 use Rattle.numbers.proofs.gained.Statement.{statement}

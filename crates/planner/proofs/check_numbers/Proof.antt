@@ -1,7 +1,6 @@
 -- `planner::check_numbers` meets its contract. Assumes nothing.
-use mathlib.Core.Path.{_≡_, sym, ap, _∙_}
+use mathlib.Core.Path.{sym, ap, _∙_}
 use borrow.Author.Needs.{needs}
-use Rattle.network.specs.declared.Checked.{Checked}
 use Rattle.planner.specs.Given.{checkNumbers}
 use Rattle.planner.specs.declared.CheckNumbers.{CheckNumbers}
 use Rattle.planner.proofs.check_numbers.Statement.{statement}

@@ -1,7 +1,6 @@
 -- `planner::drive_numbers` meets its contract. Assumes nothing.
-use mathlib.Core.Path.{_≡_, sym, ap, _∙_}
+use mathlib.Core.Path.{sym, ap, _∙_}
 use borrow.Author.Needs.{needs}
-use Rattle.routes.specs.declared.Driven.{Driven}
 use Rattle.planner.specs.Given.{driveNumbers}
 use Rattle.planner.specs.declared.DriveNumbers.{DriveNumbers}
 use Rattle.planner.proofs.drive_numbers.Statement.{statement}

@@ -1,9 +1,8 @@
 -- `planner::profile_numbers` meets its contract. Assumes nothing.
-use mathlib.Core.Path.{_≡_, sym, ap, _∙_}
+use mathlib.Core.Path.{sym, ap, _∙_}
 use borrow.Author.Needs.{needs}
 use lib.IntN.{pos}
 use Rattle.numbers.proofs.Bits.{back64}
-use Rattle.routes.specs.declared.Profiled.{Profiled}
 use Rattle.planner.specs.Given.{profileNumbers}
 use Rattle.planner.specs.declared.ProfileNumbers.{ProfileNumbers}
 use Rattle.planner.proofs.profile_numbers.Statement.{statement}

@@ -1,5 +1,5 @@
 -- `routes::drive_place` meets its contract. Assumes nothing.
-use mathlib.Core.Path.{_≡_, sym, ap, _∙_}
+use mathlib.Core.Path.{sym, ap, _∙_}
 use borrow.Author.Needs.{needs}
 use Rattle.battery.specs.declared.Drove.{Drove}
 use Rattle.routes.specs.Steps.{onDrove, onEntered, drivePlace}

@@ -1,7 +1,7 @@
 -- `routes::drive_route` meets its contract. The invariant is `Underway`: the van has driven the first i roads, and no earlier
 -- place fails. The measure is the number of places left. Assumes nothing.
-use mathlib.Core.Path.{_≡_, sym, ap, _∙_, subst}
-use Prim.Native.Nat.{ℕ, _<_, _-_}
+use mathlib.Core.Path.{sym, ap, _∙_, subst}
+use Prim.Native.Nat.{_-_}
 use native.Mathlib.Omega.{arith}
 use borrow.Author.Needs.{needs}
 use lib.ListN.{length}

@@ -1,5 +1,5 @@
 -- `routes::profile_place` meets its contract. Assumes nothing.
-use mathlib.Core.Path.{_≡_, sym, ap, _∙_}
+use mathlib.Core.Path.{sym, ap, _∙_}
 use borrow.Author.Needs.{needs}
 use Rattle.battery.specs.declared.Passage.{Passage}
 use Rattle.routes.specs.Steps.{onPassage, extendEntered, profilePlace}

@@ -1,7 +1,7 @@
 -- `battery::Van::drive` meets its contract: the naturals that the code works with are those of `goes` and `stays`.
 -- Assumes nothing.
 use mathlib.Core.Path.{_≡_, ap, _∙_, sym}
-use Prim.Native.Nat.{ℕ, _<_, _≤_, _+_, _-_, min}
+use Prim.Native.Nat.{_≤_, _+_, _-_}
 use native.Mathlib.Omega.{arith}
 use borrow.Author.Needs.{needs}
 use Rattle.numbers.proofs.Bits.{back32}

@@ -1,7 +1,7 @@
 -- `rows::shown::signed` is safe: the size of a negative number is worked out without leaving 64 bits. Assumes nothing.
 use mathlib.Core.Path.{_≡_, ap, _∙_}
 use mathlib.Core.Bool.{true}
-use Prim.Native.Nat.{ℕ, _-_, _≤_, _<_, _^_}
+use Prim.Native.Nat.{_-_, _<_, _^_}
 use native.Mathlib.Omega.{arith}
 use borrow.Author.Needs.{needs}
 use lib.IntN.{ℤ, pos, negsuc, _-ℤ_}
@@ -10,7 +10,7 @@ use mir.Facts.{toZ-ofZ}
 use mir.Syntax.{w64}
 use mir.Val.{toZ, ofZ}
 use Rattle.numbers.proofs.Diff.{draw-lt, gain-le, negative, negative-gain, nonneg}
-use Rattle.numbers.specs.Signed.{draw, gain}
+use Rattle.numbers.specs.Signed.{gain}
 use Rattle.rows.proofs.shown.signed.Statement.{statement}
 use Rattle.rows.proofs.shown.signed.Tie as tie
 
