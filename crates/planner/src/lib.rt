@@ -1,8 +1,6 @@
 // The public entries. Each takes any bytes and any numbers, asks nothing of its caller, and ends
 // with its answer or with one numbered refusal.
 ghost use mathlib.Core.Path.{_≡_};
-ghost use mathlib.Core.List.{[], _∷_};
-ghost use Prim.Native.Nat.{_≤_};
 ghost use Rattle.network.specs.Check.{firstOf};
 ghost use Rattle.planner.specs.Given.{checkNumbers, driveNumbers, profileNumbers};
 ghost use Rattle.planner.specs.Order.{isBattery, isStart};

@@ -1,22 +1,28 @@
 // The rows of document 01 that are run and compared, each refusal of the three entries with its
 // place and zeros, and the order of two faults present together. A line is the row's name and the
-// numbers given back: number and place, and then arrival, drawn, recovered and spilled of a drive,
-// or need, sum and top of a profile.
+// numbers given back.
 mod checks;
 mod drives;
 mod profiles;
 mod shown;
 
 fn main() {
-    checks::limits();
+    checks::sizes();
     checks::consumptions();
-    checks::potentials();
+    checks::sums();
+    checks::ends();
     checks::orders();
     drives::roads();
-    drives::numbers();
-    drives::routes();
+    drives::totals();
+    drives::batteries();
+    drives::starts();
+    drives::lengths();
+    drives::entries();
     drives::orders();
+    drives::places();
     profiles::roads();
+    profiles::limits();
     profiles::refusals();
+    profiles::places();
     profiles::orders();
 }

@@ -1,8 +1,28 @@
-// How a row is written, and the networks that several rows share.
+// How a row is asked and written, and the networks that several rows share. A file is written
+// record by record, least byte first.
 use libc::STDOUT_FILENO;
 use planner::DriveQuestion;
 use planner::ProfileQuestion;
 
+// What is asked about a given route.
+pub enum Asked {
+    Drive(DriveQuestion),
+    Profile(ProfileQuestion),
+}
+
+pub fn drive_of(battery: i64, start: i64, source: u64) -> Asked {
+    Asked::Drive(DriveQuestion {
+        battery,
+        start,
+        source,
+    })
+}
+
+pub fn profile_of(battery: i64, source: u64) -> Asked {
+    Asked::Profile(ProfileQuestion { battery, source })
+}
+
+// The network check: number, place.
 pub fn check_row(name: &[u8], nodes: &[u8], roads: &[u8]) {
     let given = planner::check_numbers(planner::check(nodes, roads));
     text(name);
@@ -11,399 +31,106 @@ pub fn check_row(name: &[u8], nodes: &[u8], roads: &[u8]) {
     text(b"\n");
 }
 
-pub fn drive_row(name: &[u8], nodes: &[u8], roads: &[u8], asked: DriveQuestion, route: &[u16]) {
-    let given = planner::drive_numbers(planner::drive(nodes, roads, asked, route));
+// A drive: number, place, arrival, drawn, recovered, spilled. A profile: number, place, need, sum, top.
+pub fn route_row(name: &[u8], nodes: &[u8], roads: &[u8], asked: Asked, route: &[u16]) {
     text(name);
+    match asked {
+        Asked::Drive(question) => drive_row(nodes, roads, question, route),
+        Asked::Profile(question) => profile_row(nodes, roads, question, route),
+    }
+    text(b"\n");
+}
+
+// Hill network H of document 01: potentials -200, -500, 0, 0; roads 0 to 1, 300; 1 to 2, -500;
+// 0 to 2, 100; 2 to 3, 900.
+pub fn hill(name: &[u8], asked: Asked, route: &[u16]) {
+    route_row(
+        name,
+        b"\x38\xff\xff\xff\x0c\xfe\xff\xff\x00\x00\x00\x00\x00\x00\x00\x00",
+        b"\x00\x00\x01\x00\x2c\x01\x00\x00\x01\x00\x02\x00\x0c\xfe\xff\xff\
+          \x00\x00\x02\x00\x64\x00\x00\x00\x02\x00\x03\x00\x84\x03\x00\x00",
+        asked,
+        route,
+    );
+}
+
+// The junctions of H with roads 0 to 9 and 0 to 1, consumption 5: record 0 fails 7.
+pub fn broken(name: &[u8], asked: Asked, route: &[u16]) {
+    route_row(
+        name,
+        b"\x38\xff\xff\xff\x0c\xfe\xff\xff\x00\x00\x00\x00\x00\x00\x00\x00",
+        b"\x00\x00\x09\x00\x05\x00\x00\x00\x00\x00\x01\x00\x05\x00\x00\x00",
+        asked,
+        route,
+    );
+}
+
+// 22 junctions in a row: potentials from -2,147,483,648 on, each 200,000,000 above the one before,
+// and the 21 roads from each to the next, consumption -200,000,000. Each road's sum is 0.
+pub fn down(name: &[u8], asked: Asked) {
+    route_row(
+        name,
+        b"\x00\x00\x00\x80\x00\xc2\xeb\x8b\x00\x84\xd7\x97\x00\x46\xc3\xa3\
+          \x00\x08\xaf\xaf\x00\xca\x9a\xbb\x00\x8c\x86\xc7\x00\x4e\x72\xd3\
+          \x00\x10\x5e\xdf\x00\xd2\x49\xeb\x00\x94\x35\xf7\x00\x56\x21\x03\
+          \x00\x18\x0d\x0f\x00\xda\xf8\x1a\x00\x9c\xe4\x26\x00\x5e\xd0\x32\
+          \x00\x20\xbc\x3e\x00\xe2\xa7\x4a\x00\xa4\x93\x56\x00\x66\x7f\x62\
+          \x00\x28\x6b\x6e\x00\xea\x56\x7a",
+        b"\x00\x00\x01\x00\x00\x3e\x14\xf4\x01\x00\x02\x00\x00\x3e\x14\xf4\
+          \x02\x00\x03\x00\x00\x3e\x14\xf4\x03\x00\x04\x00\x00\x3e\x14\xf4\
+          \x04\x00\x05\x00\x00\x3e\x14\xf4\x05\x00\x06\x00\x00\x3e\x14\xf4\
+          \x06\x00\x07\x00\x00\x3e\x14\xf4\x07\x00\x08\x00\x00\x3e\x14\xf4\
+          \x08\x00\x09\x00\x00\x3e\x14\xf4\x09\x00\x0a\x00\x00\x3e\x14\xf4\
+          \x0a\x00\x0b\x00\x00\x3e\x14\xf4\x0b\x00\x0c\x00\x00\x3e\x14\xf4\
+          \x0c\x00\x0d\x00\x00\x3e\x14\xf4\x0d\x00\x0e\x00\x00\x3e\x14\xf4\
+          \x0e\x00\x0f\x00\x00\x3e\x14\xf4\x0f\x00\x10\x00\x00\x3e\x14\xf4\
+          \x10\x00\x11\x00\x00\x3e\x14\xf4\x11\x00\x12\x00\x00\x3e\x14\xf4\
+          \x12\x00\x13\x00\x00\x3e\x14\xf4\x13\x00\x14\x00\x00\x3e\x14\xf4\
+          \x14\x00\x15\x00\x00\x3e\x14\xf4",
+        asked,
+        &[
+            0,
+            1,
+            2,
+            3,
+            4,
+            5,
+            6,
+            7,
+            8,
+            9,
+            10,
+            11,
+            12,
+            13,
+            14,
+            15,
+            16,
+            17,
+            18,
+            19,
+            20,
+        ],
+    );
+}
+
+fn drive_row(nodes: &[u8], roads: &[u8], question: DriveQuestion, route: &[u16]) {
+    let given = planner::drive_numbers(planner::drive(nodes, roads, question, route));
     first(given.number);
     next(given.place);
     next(given.arrival);
     next(given.drawn);
     next(given.recovered);
     next(given.spilled);
-    text(b"\n");
 }
 
-pub fn profile_row(name: &[u8], nodes: &[u8], roads: &[u8], asked: ProfileQuestion, route: &[u16]) {
-    let given = planner::profile_numbers(planner::profile(nodes, roads, asked, route));
-    text(name);
+fn profile_row(nodes: &[u8], roads: &[u8], question: ProfileQuestion, route: &[u16]) {
+    let given = planner::profile_numbers(planner::profile(nodes, roads, question, route));
     first(given.number);
     next(given.place);
     next(given.need);
     signed(given.sum);
     next(given.top);
-    text(b"\n");
-}
-
-// Rows on network H.
-pub fn hill_drive(name: &[u8], asked: DriveQuestion, route: &[u16]) {
-    drive_row(name, &hill_nodes(), &hill_roads(), asked, route);
-}
-
-pub fn hill_profile(name: &[u8], asked: ProfileQuestion, route: &[u16]) {
-    profile_row(name, &hill_nodes(), &hill_roads(), asked, route);
-}
-
-// Rows on network H with the roads broken.
-pub fn broken_drive(name: &[u8], asked: DriveQuestion, route: &[u16]) {
-    drive_row(name, &hill_nodes(), &broken_roads(), asked, route);
-}
-
-pub fn broken_profile(name: &[u8], asked: ProfileQuestion, route: &[u16]) {
-    profile_row(name, &hill_nodes(), &broken_roads(), asked, route);
-}
-
-pub fn drive_of(battery: i64, start: i64, source: u64) -> DriveQuestion {
-    DriveQuestion {
-        battery,
-        start,
-        source,
-    }
-}
-
-pub fn profile_of(battery: i64, source: u64) -> ProfileQuestion {
-    ProfileQuestion { battery, source }
-}
-
-// Hill network H of document 01: potentials -200, -500, 0, 0.
-pub fn hill_nodes() -> [u8; 16] {
-    [56, 255, 255, 255, 12, 254, 255, 255, 0, 0, 0, 0, 0, 0, 0, 0]
-}
-
-// Roads 0 to 1, 300; 1 to 2, -500; 0 to 2, 100; 2 to 3, 900.
-pub fn hill_roads() -> [u8; 32] {
-    [
-        0,
-        0,
-        1,
-        0,
-        44,
-        1,
-        0,
-        0,
-        1,
-        0,
-        2,
-        0,
-        12,
-        254,
-        255,
-        255,
-        0,
-        0,
-        2,
-        0,
-        100,
-        0,
-        0,
-        0,
-        2,
-        0,
-        3,
-        0,
-        132,
-        3,
-        0,
-        0,
-    ]
-}
-
-// Roads 0 to 9 and 0 to 1, consumption 5: record 0 fails 7 on network H.
-pub fn broken_roads() -> [u8; 16] {
-    [0, 0, 9, 0, 5, 0, 0, 0, 0, 0, 1, 0, 5, 0, 0, 0]
-}
-
-// 22 junctions in a row: potentials from -2,147,483,648 on, each 200,000,000 above the one before.
-pub fn down_nodes() -> [u8; 88] {
-    [
-        0,
-        0,
-        0,
-        128,
-        0,
-        194,
-        235,
-        139,
-        0,
-        132,
-        215,
-        151,
-        0,
-        70,
-        195,
-        163,
-        0,
-        8,
-        175,
-        175,
-        0,
-        202,
-        154,
-        187,
-        0,
-        140,
-        134,
-        199,
-        0,
-        78,
-        114,
-        211,
-        0,
-        16,
-        94,
-        223,
-        0,
-        210,
-        73,
-        235,
-        0,
-        148,
-        53,
-        247,
-        0,
-        86,
-        33,
-        3,
-        0,
-        24,
-        13,
-        15,
-        0,
-        218,
-        248,
-        26,
-        0,
-        156,
-        228,
-        38,
-        0,
-        94,
-        208,
-        50,
-        0,
-        32,
-        188,
-        62,
-        0,
-        226,
-        167,
-        74,
-        0,
-        164,
-        147,
-        86,
-        0,
-        102,
-        127,
-        98,
-        0,
-        40,
-        107,
-        110,
-        0,
-        234,
-        86,
-        122,
-    ]
-}
-
-// The 21 roads from each to the next, consumption -200,000,000: each sum is 0.
-pub fn down_roads() -> [u8; 168] {
-    [
-        0,
-        0,
-        1,
-        0,
-        0,
-        62,
-        20,
-        244,
-        1,
-        0,
-        2,
-        0,
-        0,
-        62,
-        20,
-        244,
-        2,
-        0,
-        3,
-        0,
-        0,
-        62,
-        20,
-        244,
-        3,
-        0,
-        4,
-        0,
-        0,
-        62,
-        20,
-        244,
-        4,
-        0,
-        5,
-        0,
-        0,
-        62,
-        20,
-        244,
-        5,
-        0,
-        6,
-        0,
-        0,
-        62,
-        20,
-        244,
-        6,
-        0,
-        7,
-        0,
-        0,
-        62,
-        20,
-        244,
-        7,
-        0,
-        8,
-        0,
-        0,
-        62,
-        20,
-        244,
-        8,
-        0,
-        9,
-        0,
-        0,
-        62,
-        20,
-        244,
-        9,
-        0,
-        10,
-        0,
-        0,
-        62,
-        20,
-        244,
-        10,
-        0,
-        11,
-        0,
-        0,
-        62,
-        20,
-        244,
-        11,
-        0,
-        12,
-        0,
-        0,
-        62,
-        20,
-        244,
-        12,
-        0,
-        13,
-        0,
-        0,
-        62,
-        20,
-        244,
-        13,
-        0,
-        14,
-        0,
-        0,
-        62,
-        20,
-        244,
-        14,
-        0,
-        15,
-        0,
-        0,
-        62,
-        20,
-        244,
-        15,
-        0,
-        16,
-        0,
-        0,
-        62,
-        20,
-        244,
-        16,
-        0,
-        17,
-        0,
-        0,
-        62,
-        20,
-        244,
-        17,
-        0,
-        18,
-        0,
-        0,
-        62,
-        20,
-        244,
-        18,
-        0,
-        19,
-        0,
-        0,
-        62,
-        20,
-        244,
-        19,
-        0,
-        20,
-        0,
-        0,
-        62,
-        20,
-        244,
-        20,
-        0,
-        21,
-        0,
-        0,
-        62,
-        20,
-        244,
-    ]
-}
-
-pub fn down_route() -> [u16; 21] {
-    [
-        0,
-        1,
-        2,
-        3,
-        4,
-        5,
-        6,
-        7,
-        8,
-        9,
-        10,
-        11,
-        12,
-        13,
-        14,
-        15,
-        16,
-        17,
-        18,
-        19,
-        20,
-    ]
 }
 
 fn text(t: &[u8]) {
