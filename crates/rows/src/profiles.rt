@@ -20,7 +20,7 @@ pub fn limits() {
     let one = [0u8; 4];
     hill(b"battery 100, profile of 1", profile_of(100, 1), &[1]);
     hill(b"battery 900, profile of 3", profile_of(900, 2), &[3]);
-    down(b"21 roads down", profile_of(200000000, 0));
+    down(b"11 roads down", profile_of(200000000, 0));
     route_row(
         b"one junction, no roads, list of length 0",
         &one,
