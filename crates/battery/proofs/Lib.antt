@@ -7,3 +7,4 @@ pub mod Next
 pub mod Compose
 pub mod Arrive
 pub mod Agree
+pub mod Exact

@@ -1,8 +1,10 @@
 -- What is proved of the rule, the drive and the profile, in document 01's words. The proofs are in proofs/.
 use mathlib.Core.Path.{_≡_}
+use mathlib.Core.Bool.{true}
 use mathlib.Core.List.{List, _++_}
 use Prim.Native.Nat.{ℕ, _+_, _-_, _≤_, _<_, min, max}
-use Rattle.battery.specs.Rule.{left}
+use lib.IntN.{ℤ, pos, _-ℤ_}
+use Rattle.battery.specs.Rule.{drivable, left}
 use Rattle.battery.specs.Drive.{fresh, driveAll}
 use Rattle.battery.specs.Profile.{profileOf, followedBy}
 use Rattle.battery.specs.declared.Road.{Road}
@@ -11,6 +13,14 @@ use Rattle.battery.specs.declared.Drove.{Drove}
 use Rattle.battery.specs.declared.Drove.the-variants.{On, TooLow}
 use Rattle.battery.specs.declared.Profile.{Profile}
 use Rattle.battery.specs.declared.Passage.the-variants.{Passable, Impassable}
+
+-- b − c is exact where c is no greater than b: nothing is cut off at 0
+abbrev pub LeftExact : Type 0
+LeftExact = (b : ℕ) (c : ℤ) → drivable b c ≡ true → pos (left b c) ≡ pos b -ℤ c
+
+-- sum is no greater than need, so that start − sum is exact from need on, and top of P − sum of Q where top of P ≥ need of Q
+abbrev pub SumWithinNeed : Type 0
+SumWithinNeed = (M : ℕ) (rs : List Road) (p : Profile) → profileOf M rs ≡ Passable p → drivable (p .need) (p .sum) ≡ true
 
 -- start + recovered = arrival + drawn + spilled, for every driven route
 abbrev pub Balance : Type 0

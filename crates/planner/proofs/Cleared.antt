@@ -23,7 +23,7 @@ use Rattle.network.specs.declared.Checked.the-variants.{Passed}
 use Rattle.network.specs.declared.Refusal.the-variants.{Battery, Start, LongRoute}
 use Rattle.routes.specs.Places.{mostEntries}
 use Rattle.routes.specs.Steps.{RangedRoads}
-use Rattle.planner.specs.Checks.{beforeDrive, beforeProfile}
+use Rattle.planner.specs.Before.{beforeDrive, beforeProfile}
 use Rattle.planner.specs.Order.{isBattery, isStart}
 use Rattle.planner.specs.declared.DriveQuestion.{DriveQuestion}
 use Rattle.planner.specs.declared.ProfileQuestion.{ProfileQuestion}

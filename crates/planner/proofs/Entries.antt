@@ -16,7 +16,7 @@ use Rattle.routes.specs.declared.Driven.{Driven}
 use Rattle.routes.specs.declared.Driven.the-variants as driven
 use Rattle.routes.specs.declared.Profiled.{Profiled}
 use Rattle.routes.specs.declared.Profiled.the-variants as profiled
-use Rattle.planner.specs.Checks.{beforeDrive, beforeProfile}
+use Rattle.planner.specs.Before.{beforeDrive, beforeProfile}
 use Rattle.planner.specs.Given.{driveNumbers, profileNumbers}
 use Rattle.planner.specs.Order.{vanOf, driveFault, profileFault}
 use Rattle.planner.specs.Promises.{Drives, Profiles}

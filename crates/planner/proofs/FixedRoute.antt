@@ -30,7 +30,7 @@ use Rattle.network.specs.declared.Checked.the-variants.{Passed, Refused}
 use Rattle.routes.proofs.Low.{low-route}
 use Rattle.routes.specs.Places.{mostEntries}
 use Rattle.routes.specs.declared.Driven.the-variants as driven
-use Rattle.planner.specs.Checks.{beforeDrive}
+use Rattle.planner.specs.Before.{beforeDrive}
 use Rattle.planner.specs.Claims.{NoLess, FixedRoute}
 use Rattle.planner.specs.Given.{driveNumbers}
 use Rattle.planner.specs.Order.{isBattery, isStart, vanOf, driveFault}

@@ -2,4 +2,4 @@ pub mod Given
 pub mod Order
 pub mod Promises
 pub mod Claims
-pub mod Checks
+pub mod Before

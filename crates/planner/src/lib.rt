@@ -4,7 +4,7 @@ ghost use mathlib.Core.Path.{_≡_};
 ghost use Rattle.network.specs.Check.{firstOf};
 ghost use Rattle.planner.specs.Given.{checkNumbers, driveNumbers, profileNumbers};
 ghost use Rattle.planner.specs.Order.{isBattery, isStart};
-ghost use Rattle.planner.specs.Checks.{beforeBattery, beforeRoute, beforeDrive, beforeProfile};
+ghost use Rattle.planner.specs.Before.{beforeBattery, beforeRoute, beforeDrive, beforeProfile};
 ghost use Rattle.planner.specs.Promises.{Checks, Drives, Profiles};
 use battery::Van;
 use network::Checked;

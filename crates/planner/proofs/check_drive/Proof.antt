@@ -9,7 +9,7 @@ use Rattle.network.proofs.Faults.{first-append}
 use Rattle.network.specs.Check.{unless, firstOf}
 use Rattle.network.specs.declared.Checked.{Checked}
 use Rattle.network.specs.declared.Refusal.the-variants.{Start}
-use Rattle.planner.specs.Checks.{beforeBattery, beforeRoute}
+use Rattle.planner.specs.Before.{beforeBattery, beforeRoute}
 use Rattle.planner.specs.Order.{isStart}
 use Rattle.planner.proofs.check_drive.Statement.{statement}
 use Rattle.planner.proofs.check_drive.Tie as tie

@@ -5,7 +5,7 @@ use lib.IntN.{ℤ}
 use Rattle.numbers.proofs.Bits.{back64}
 use Rattle.network.proofs.Faults.{first-append}
 use Rattle.network.specs.Check.{firstOf}
-use Rattle.planner.specs.Checks.{beforeBattery, beforeRoute}
+use Rattle.planner.specs.Before.{beforeBattery, beforeRoute}
 use Rattle.planner.proofs.check_profile.Statement.{statement}
 use Rattle.planner.proofs.check_profile.Tie as tie
 

@@ -9,7 +9,7 @@ use Rattle.battery.specs.declared.Van.{Van}
 use Rattle.network.specs.Check.{firstOf}
 use Rattle.network.specs.declared.Checked.the-variants as checked
 use Rattle.routes.specs.Steps.{DriveAsks, DriveKeeps}
-use Rattle.planner.specs.Checks.{beforeDrive}
+use Rattle.planner.specs.Before.{beforeDrive}
 use Rattle.planner.specs.Order.{vanOf}
 use Rattle.planner.proofs.Cleared.{whole-bits, battery-whole, start-whole, drive-cleared}
 use Rattle.planner.proofs.Entries.{drive-refused, drive-asks, drive-kept}

@@ -8,7 +8,7 @@ use Rattle.numbers.specs.Signed.{draw}
 use Rattle.network.specs.Check.{firstOf}
 use Rattle.network.specs.declared.Checked.the-variants as checked
 use Rattle.routes.specs.Steps.{ProfileAsks, ProfileKeeps}
-use Rattle.planner.specs.Checks.{beforeProfile}
+use Rattle.planner.specs.Before.{beforeProfile}
 use Rattle.planner.proofs.Cleared.{whole-bits, battery-whole, profile-cleared}
 use Rattle.planner.proofs.Entries.{profile-refused, profile-asks, profile-kept}
 use Rattle.planner.proofs.profile.Statement.{statement}
