@@ -24,19 +24,19 @@ pub enum Profiled {
 }
 
 // The road at a place of the route, or why the van cannot enter it.
-pub enum Entered {
+enum Entered {
     Road(Road),
     Refused(Refusal),
 }
 
 // The junction and the van beyond a place of the route, or the fault there.
-pub enum DriveStep {
+enum DriveStep {
     On(usize, Van),
     Refused(Refusal),
 }
 
 // The junction beyond a place of the route and the profile up to it, or the fault there.
-pub enum ProfileStep {
+enum ProfileStep {
     On(usize, Profile),
     Refused(Refusal),
 }
