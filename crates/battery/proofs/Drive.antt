@@ -67,14 +67,6 @@ stays v r h = simp (drivable-is (v .charge) (r .consumption), lt-leb _ _ h)
 
 -- ---- the roads in turn
 
-pub drive-all-on : (v : Van) (r : Road) (rs : List Road) {w : Van} → drive v r ≡ On w → driveAll v (r ∷ rs) ≡ driveAll w rs
-unfolding driveAll
-drive-all-on v r rs e = ap (λ (d : Drove). andThen d (λ w. driveAll w rs)) e
-
-pub drive-all-low : (v : Van) (r : Road) (rs : List Road) → drive v r ≡ TooLow → driveAll v (r ∷ rs) ≡ TooLow
-unfolding driveAll
-drive-all-low v r rs e = ap (λ (d : Drove). andThen d (λ w. driveAll w rs)) e
-
 -- the roads of one list and then of another
 pub drive-all-append : (v : Van) (rs qs : List Road) → driveAll v (rs ++ qs) ≡ andThen (driveAll v rs) (λ w. driveAll w qs)
 unfolding driveAll

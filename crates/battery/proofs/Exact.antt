@@ -6,7 +6,8 @@ use native.Mathlib.Omega.{arith}
 use borrow.Author.Tests.{leb-true, le-leb}
 use lib.IntN.{ℤ, pos, _-ℤ_}
 use lib.Signed.{leZ}
-use Rattle.numbers.proofs.Diff.{diff-self, diff-pos, diff-minus, diff-leZ, from-zero}
+use Rattle.numbers.proofs.Diff.{diff-self, diff-pos, diff-minus, diff-leZ}
+use Rattle.numbers.proofs.Sign.{from-zero}
 use Rattle.numbers.specs.Signed.{draw, gain}
 use Rattle.battery.specs.Claims.{LeftExact, SumWithinNeed}
 use Rattle.battery.proofs.Join.{profile-kept}

@@ -8,7 +8,7 @@ use borrow.Author.Tests.{leb-true}
 use lib.Dec.{leb}
 use lib.IntN.{ℤ, pos, _+ℤ_}
 use Rattle.numbers.specs.Signed.{draw, gain}
-use Rattle.numbers.proofs.Diff.{diff-self, diff-pos, diff-add, diff-minus, draw-of, gain-of}
+use Rattle.numbers.proofs.Diff.{diff-self, diff-pos, diff-add, diff-minus, draw-of, draw-add, gain-add}
 use Rattle.battery.specs.Rule.{drivable, left}
 use Rattle.battery.specs.Profile.{noRoads, roadProfile, oneRoad, joined, followedBy, profileOf, pickPassage}
 use Rattle.battery.specs.Ready.{Kept}
@@ -28,12 +28,6 @@ Keeps M Impassable = Unit {0}
 -- the least start of which n is left after roads that come to s
 pub reach-is : (n : ℕ) (s : ℤ) → draw (pos n +ℤ s) ≡ n + draw s - gain s
 reach-is n s = let e = draw-of (diff-add (diff-pos n) (diff-self s)) in omega arith
-
-pub draw-add : (x y : ℤ) → draw (x +ℤ y) ≡ draw x + draw y - (gain x + gain y)
-draw-add x y = draw-of (diff-add (diff-self x) (diff-self y))
-
-pub gain-add : (x y : ℤ) → gain (x +ℤ y) ≡ gain x + gain y - (draw x + draw y)
-gain-add x y = gain-of (diff-add (diff-self x) (diff-self y))
 
 pub left-twice : (b : ℕ) (x y : ℤ) → draw x ≤ b + gain x → left (left b x) y ≡ left b (x +ℤ y)
 left-twice b x y h =

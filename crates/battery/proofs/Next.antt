@@ -10,7 +10,7 @@ use lib.Signed.{mag}
 use mir.Syntax.{w32, w64}
 use mir.Val.{SFits, toZ, ofZ}
 use Rattle.numbers.specs.Signed.{draw, gain}
-use Rattle.numbers.proofs.Diff.{mag-le, mag-plus}
+use Rattle.numbers.proofs.Diff.{draw-add, mag-le, mag-plus}
 use Rattle.numbers.proofs.Bits.{back64}
 use Rattle.battery.specs.Rule.{mostBattery, mostConsumption, drivable}
 use Rattle.battery.specs.Profile.{roadProfile, oneRoad, joined, followedBy, pickPassage}
@@ -19,7 +19,7 @@ use Rattle.battery.specs.declared.Road.{Road}
 use Rattle.battery.specs.declared.Profile.{Profile}
 use Rattle.battery.specs.declared.Passage.the-variants.{Passable, Impassable}
 use Rattle.battery.proofs.Rule.{drivable-is}
-use Rattle.battery.proofs.Join.{draw-add, road-top}
+use Rattle.battery.proofs.Join.{road-top}
 
 abbrev pub next : ℕ → Profile → Road → Profile
 next M p r =

@@ -6,7 +6,7 @@ use Prim.Native.Nat.{ℕ, zero, suc, _+_, _-_, _<_, _≤_}
 use native.Mathlib.Omega.{arith}
 use lib.Dec.{T, leb, ltb, leb→le, le→leb}
 use lib.IntN.{ℤ, pos, negsuc, negℤ, subℕ, _+ℤ_, _-ℤ_}
-use lib.Signed.{mag, leZ, ltZ}
+use lib.Signed.{mag, leZ}
 use borrow.Author.Tests.{ltb-true, ltb-false, le-leb, lt-leb}
 use Rattle.numbers.specs.Signed.{draw, gain}
 
@@ -56,10 +56,11 @@ pub gain-of : {z : ℤ} {a b : ℕ} → Diff z a b → gain z ≡ b - a
 gain-of {z = pos n} d = omega arith
 gain-of {z = negsuc n} d = omega arith
 
--- one of the two is 0
-pub one-sided : (z : ℤ) → draw z - gain z + gain z ≡ draw z + gain z
-one-sided (pos n) = omega arith
-one-sided (negsuc n) = omega arith
+pub draw-add : (x y : ℤ) → draw (x +ℤ y) ≡ draw x + draw y - (gain x + gain y)
+draw-add x y = draw-of (diff-add (diff-self x) (diff-self y))
+
+pub gain-add : (x y : ℤ) → gain (x +ℤ y) ≡ gain x + gain y - (draw x + draw y)
+gain-add x y = gain-of (diff-add (diff-self x) (diff-self y))
 
 -- ---- equations and orders
 
@@ -121,34 +122,3 @@ mag-plus g h x y p q =
     let a' = draw-lt y h q in
     let b' = gain-le y h q in
     diff-mag (g + h) (diff-add (diff-self x) (diff-self y)) (omega arith) (omega arith)
-
--- ---- what a test against 0 tells
-
-pub from-zero : (x : ℤ) → leZ (pos 0) x ≡ true → x ≡ pos (draw x)
-from-zero (pos n) h = refl
-from-zero (negsuc n) h = let z : _≡_ {A = ℕ} 0 1 = cc in absurd (omega arith)
-
-pub nonneg : (x : ℤ) → ltZ x (pos 0) ≡ false → x ≡ pos (draw x)
-nonneg (pos n) h = refl
-nonneg (negsuc n) h = let z : _≡_ {A = ℕ} 0 1 = cc in absurd (omega arith)
-
-pub nonneg-gain : (x : ℤ) → ltZ x (pos 0) ≡ false → gain x ≡ 0
-nonneg-gain (pos n) h = refl
-nonneg-gain (negsuc n) h = let z : _≡_ {A = ℕ} 0 1 = cc in absurd (omega arith)
-
-pub negative : (x : ℤ) → ltZ x (pos 0) ≡ true → negsuc 0 -ℤ x ≡ pos (gain x - 1)
-negative (pos n) h = absurd (omega (arith, ltb-true n 0 h))
-negative (negsuc n) h =
-    diff-same (diff-minus (diff-self (negsuc 0)) (diff-self (negsuc n))) (diff-pos (suc n - 1)) (omega arith)
-
-pub negative-gain : (x : ℤ) → ltZ x (pos 0) ≡ true → 0 < gain x
-negative-gain (pos n) h = absurd (omega (arith, ltb-true n 0 h))
-negative-gain (negsuc n) h = omega arith
-
-pub positive : (x : ℤ) → ltZ (pos 0) x ≡ true → x ≡ pos (draw x)
-positive (pos n) h = refl
-positive (negsuc n) h = let z : _≡_ {A = ℕ} 0 1 = cc in absurd (omega arith)
-
-pub nonpos-draw : (x : ℤ) → ltZ (pos 0) x ≡ false → draw x ≡ 0
-nonpos-draw (pos n) h = omega (arith, ltb-false 0 n h)
-nonpos-draw (negsuc n) h = refl

@@ -62,7 +62,6 @@ module _ (rs : List ℕ) (source : ℕ) (es : List ℕ) where
 
 -- before place i the van stands at `at`, and no earlier place fails
 pub record Standing (rs : List ℕ) (source : ℕ) (es : List ℕ) (last : ℕ → Checked) (at i : ℕ) : Type 0 where
-  pub place-le : i ≤ length es
   pub stands : at ≡ standsAt rs source es i
   pub faults : firstFrom (λ j. placeFault rs source es j (last j)) (length es - i) i ≡ routeFault rs source es last
 
@@ -75,7 +74,6 @@ module _ {rs : List ℕ} {source : ℕ} {es : List ℕ} {last : ℕ → Checked}
       → last i ≡ checked.Passed → Standing rs source es last (r .head) (i + 1)
   standing-on {r} s h e l =
       record {
-        place-le = omega arith;
         stands = sym (ap (standsAt rs source es) (add-one i) ∙ ap (λ (x : Road). x .head) (entered-road rs (entryAt es i) i at e .road-is));
         faults =
             sym (from-go (λ j. placeFault rs source es j (last j)) (length es) i h (fault-is s e ∙ l)) ∙ s .faults;
@@ -100,7 +98,6 @@ module _ {rs : List ℕ} {source : ℕ} {es : List ℕ} {last : ℕ → Checked}
 pub standing-start : (rs : List ℕ) (source : ℕ) (es : List ℕ) (last : ℕ → Checked) → Standing rs source es last source 0
 standing-start rs source es last =
     record {
-      place-le = omega arith;
       stands = refl;
       faults = ap (λ (n : ℕ). firstFrom (λ j. placeFault rs source es j (last j)) n 0) (omega arith);
     }

@@ -4,9 +4,10 @@ use mathlib.Core.List.{List}
 use Prim.Native.Nat.{ℕ, _+_, _≤_, _<_}
 use native.Mathlib.Omega.{arith}
 use lib.ListN.{length, take}
+use Rattle.numbers.proofs.Diff.{draw-add, gain-add}
 use Rattle.numbers.specs.Signed.{draw, gain}
 use Rattle.battery.proofs.Compose.{compose-one}
-use Rattle.battery.proofs.Join.{draw-add, gain-add, none-kept, profile-kept}
+use Rattle.battery.proofs.Join.{none-kept, profile-kept}
 use Rattle.battery.proofs.Next.{next-sum}
 use Rattle.battery.specs.Profile.{noRoads, followedBy, oneRoad, profileOf}
 use Rattle.battery.specs.Ready.{Ranged, Extends}

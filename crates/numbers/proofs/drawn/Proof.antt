@@ -5,7 +5,8 @@ use lib.IntN.{pos, natAbs}
 use mir.Facts.{toZ-ofZ}
 use mir.Syntax.{w32}
 use mir.Val.{toZ, ofZ}
-use Rattle.numbers.proofs.Diff.{draw-lt, positive, nonpos-draw}
+use Rattle.numbers.proofs.Diff.{draw-lt}
+use Rattle.numbers.proofs.Sign.{positive, nonpos-draw}
 use Rattle.numbers.specs.Signed.{draw}
 use Rattle.numbers.proofs.drawn.Statement.{statement}
 use Rattle.numbers.proofs.drawn.Tie as tie

@@ -7,7 +7,8 @@ use lib.Signed.{ltZ}
 use mir.Facts.{toZ-ofZ}
 use mir.Syntax.{w32}
 use mir.Val.{toZ, ofZ}
-use Rattle.numbers.proofs.Diff.{gain-le, negative, negative-gain, nonneg-gain}
+use Rattle.numbers.proofs.Diff.{gain-le}
+use Rattle.numbers.proofs.Sign.{negative, negative-gain, nonneg-gain}
 use Rattle.numbers.specs.Signed.{gain}
 use Rattle.numbers.proofs.gained.Statement.{statement}
 use Rattle.numbers.proofs.gained.Tie as tie

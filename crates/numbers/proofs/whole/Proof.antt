@@ -4,7 +4,7 @@ use lib.IntN.{pos, natAbs}
 use mir.Facts.{toZ-ofZ}
 use mir.Syntax.{w64}
 use mir.Val.{toZ, ofZ}
-use Rattle.numbers.proofs.Diff.{from-zero}
+use Rattle.numbers.proofs.Sign.{from-zero}
 use Rattle.numbers.specs.Signed.{draw}
 use Rattle.numbers.proofs.whole.Statement.{statement}
 use Rattle.numbers.proofs.whole.Tie as tie

@@ -9,7 +9,8 @@ use lib.Signed.{ltZ}
 use mir.Facts.{toZ-ofZ}
 use mir.Syntax.{w64}
 use mir.Val.{toZ, ofZ}
-use Rattle.numbers.proofs.Diff.{draw-lt, gain-le, negative, negative-gain, nonneg}
+use Rattle.numbers.proofs.Diff.{draw-lt, gain-le}
+use Rattle.numbers.proofs.Sign.{negative, negative-gain, nonneg}
 use Rattle.numbers.specs.Signed.{gain}
 use Rattle.rows.proofs.shown.signed.Statement.{statement}
 use Rattle.rows.proofs.shown.signed.Tie as tie
