@@ -44,10 +44,12 @@ follows d v w (r ∷ rs) {end} a e = go (drive v r) (drive w r) (driving v r) (d
     go (On x) TooLow (on p) (low q) h k = let b = p .enough in let c = a .charge-le in absurd (omega arith)
     go TooLow g (low p) q h k = let z : _≡_ {A = ℕ} 0 1 = cc in absurd (omega arith)
 
+-- at the start, with d the larger of the two increases
+start : (M M' b b' : ℕ) → M ≤ M' → b ≤ b' → Ahead (max (M' - M) (b' - b)) (fresh M b) (fresh M' b')
+start M M' b b' m s =
+    record { battery-le = m; battery-by = omega arith; charge-le = s; charge-by = omega arith }
+
 pub fixed-route : FixedRoute
 fixed-route M M' b b' rs first m s e =
-    let d = max (M' - M) (b' - b) in
-    let start : Ahead d (fresh M b) (fresh M' b') =
-    record { battery-le = m; battery-by = omega arith; charge-le = s; charge-by = omega arith } in
-    let f = follows d (fresh M b) (fresh M' b') rs start e in
+    let f = follows (max (M' - M) (b' - b)) (fresh M b) (fresh M' b') rs (start M M' b b' m s) e in
     record { second = f .van; drives = f .drives; no-less = f .ahead .charge-le; at-most = f .ahead .charge-by }

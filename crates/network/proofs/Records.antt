@@ -2,8 +2,14 @@
 use mathlib.Core.Path.{_≡_}
 use mathlib.Core.Bool.{true}
 use mathlib.Core.List.{List}
-use Prim.Native.Nat.{ℕ, _<_}
-use borrow.Author.Tests.{ltb-true}
+use Prim.Native.Nat.{ℕ, _-_, _≤_, _<_}
+use native.Mathlib.Omega.{arith}
+use borrow.Author.Tests.{ltb-true, leb-true}
+use lib.IntN.{ℤ, pos, negsuc, negℤ}
+use lib.Signed.{leZ}
+use Rattle.numbers.specs.Signed.{draw, gain}
+use Rattle.battery.specs.Ready.{Ranged}
+use Rattle.battery.specs.Rule.{mostConsumption}
 use Rattle.battery.specs.declared.Road.{Road}
 use Rattle.network.specs.Check.{recordFault, recordsFault}
 use Rattle.network.specs.Files.{junctions, roadCount, roadOf, potential, inRange, passes}
@@ -33,3 +39,19 @@ record-sound ns k r e =
 
 pub all-sound : (ns rs : List ℕ) → recordsFault ns rs ≡ Passed → (k : ℕ) → k < roadCount rs → Sound ns (roadOf rs k)
 all-sound ns rs e k h = record-sound ns k (roadOf rs k) (all-passed (λ j. recordFault ns j (roadOf rs j)) (roadCount rs) e k h)
+
+-- ---- 8, in naturals
+
+draw-ranged : (c : ℤ) → leZ c (pos mostConsumption) ≡ true → draw c ≤ mostConsumption
+draw-ranged (pos n) h = leb-true n mostConsumption h
+draw-ranged (negsuc n) h = omega arith
+
+gain-ranged : (c : ℤ) → leZ (negℤ (pos mostConsumption)) c ≡ true → gain c ≤ mostConsumption
+gain-ranged (pos n) h = omega arith
+gain-ranged (negsuc n) h = let k = leb-true n (mostConsumption - 1) h in omega arith
+
+pub all-ranged : (ns rs : List ℕ) → recordsFault ns rs ≡ Passed → (k : ℕ) → k < roadCount rs → Ranged (roadOf rs k)
+all-ranged ns rs e k h =
+    let c = roadOf rs k .consumption in
+    let b = both-true (leZ (negℤ (pos mostConsumption)) c) (leZ c (pos mostConsumption)) (all-sound ns rs e k h .ranged) in
+    record { draw-le = draw-ranged c (b .1); gain-le = gain-ranged c (b .0) }

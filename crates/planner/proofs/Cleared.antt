@@ -6,23 +6,18 @@ use Prim.Native.Nat.{ℕ, _≤_, _<_, _^_}
 use native.Mathlib.Omega.{arith}
 use borrow.Author.Tests.{leb-true, le-leb}
 use lib.Dec.{leb}
-use lib.IntN.{ℤ, pos, negsuc, negℤ}
+use lib.IntN.{ℤ, pos, negsuc}
 use lib.Signed.{leZ, mag}
 use mir.Syntax.{w64}
 use mir.Val.{toZ, ofZ}
 use Rattle.numbers.proofs.Bits.{back64}
-use Rattle.numbers.specs.Signed.{draw, gain}
-use Rattle.battery.specs.Ready.{Ranged}
-use Rattle.battery.specs.Rule.{mostBattery, mostConsumption}
-use Rattle.battery.specs.declared.Road.{Road}
+use Rattle.numbers.specs.Signed.{draw}
+use Rattle.battery.specs.Rule.{mostBattery}
 use Rattle.network.proofs.Faults.{each-passed, unless-passed, both-true}
-use Rattle.network.proofs.Records.{all-sound}
 use Rattle.network.specs.Check.{firstOf, recordsFault}
-use Rattle.network.specs.Files.{inRange}
 use Rattle.network.specs.declared.Checked.the-variants.{Passed}
 use Rattle.network.specs.declared.Refusal.the-variants.{Battery, Start, LongRoute}
 use Rattle.routes.specs.Places.{mostEntries}
-use Rattle.routes.specs.Steps.{RangedRoads}
 use Rattle.planner.specs.Before.{beforeDrive, beforeProfile}
 use Rattle.planner.specs.Order.{isBattery, isStart}
 use Rattle.planner.specs.declared.DriveQuestion.{DriveQuestion}
@@ -56,23 +51,6 @@ start-whole (pos n) (pos k) e f =
     (record { from-0 = le-leb 0 k (omega arith); draw-le = omega arith }, g)
 start-whole (pos n) (negsuc k) e f = let z : _≡_ {A = ℕ} 0 1 = cc in absurd (omega arith)
 start-whole (negsuc n) b e f = let z : _≡_ {A = ℕ} 0 1 = cc in absurd (omega arith)
-
--- 8 of all records
-road-ranged : (r : Road) → inRange (r .consumption) ≡ true → Ranged r
-road-ranged r e =
-    let b = both-true (leZ (negℤ (pos mostConsumption)) (r .consumption)) (leZ (r .consumption) (pos mostConsumption)) e in
-    record { draw-le = d (r .consumption) (b .1); gain-le = g (r .consumption) (b .0) }
-  where
-    d : (c : ℤ) → leZ c (pos mostConsumption) ≡ true → draw c ≤ mostConsumption
-    d (pos n) h = leb-true n mostConsumption h
-    d (negsuc n) h = omega arith
-
-    g : (c : ℤ) → leZ (negℤ (pos mostConsumption)) c ≡ true → gain c ≤ mostConsumption
-    g (pos n) h = omega arith
-    g (negsuc n) h = let k = leb-true n 199999999 h in omega arith
-
-pub all-ranged : (ns rs : List ℕ) → recordsFault ns rs ≡ Passed → RangedRoads rs
-all-ranged ns rs e = record { ranged = λ k h. road-ranged _ (all-sound ns rs e k h .ranged) }
 
 -- 5, 11 and the records
 pub record Cleared (ns rs : List ℕ) (m : ℤ) (entries : ℕ) : Type 0 where

@@ -6,6 +6,7 @@ use native.Mathlib.Omega.{arith}
 use lib.ListN.{length}
 use Rattle.numbers.specs.Signed.{draw}
 use Rattle.network.proofs.Faults.{first-end, first-append}
+use Rattle.network.proofs.Records.{all-ranged}
 use Rattle.network.specs.Check.{first, firstOf}
 use Rattle.network.specs.declared.Refusal.{Refusal}
 use Rattle.network.specs.declared.Checked.{Checked}
@@ -22,7 +23,7 @@ use Rattle.planner.specs.Order.{vanOf, driveFault, profileFault}
 use Rattle.planner.specs.Promises.{Drives, Profiles}
 use Rattle.planner.specs.declared.DriveQuestion.{DriveQuestion}
 use Rattle.planner.specs.declared.ProfileQuestion.{ProfileQuestion}
-use Rattle.planner.proofs.Cleared.{battery-whole, start-whole, all-ranged, drive-cleared, profile-cleared}
+use Rattle.planner.proofs.Cleared.{battery-whole, start-whole, drive-cleared, profile-cleared}
 
 module _ (ns rs : List ℕ) (q : DriveQuestion) (es : List ℕ) where
   pub drive-fault-is : {x : Checked} → firstOf (beforeDrive ns rs q (length es)) ≡ x
@@ -42,7 +43,7 @@ module _ (ns rs : List ℕ) (q : DriveQuestion) (es : List ℕ) where
       let m = battery-whole (q .battery) (c .0 .battery-ok) in
       let b = start-whole (q .battery) (q .start) (c .0 .battery-ok) (c .1) in
       record {
-        roads-ranged = all-ranged ns rs (c .0 .records-ok);
+        roads-ranged = record { ranged = all-ranged ns rs (c .0 .records-ok) };
         entries-le = c .0 .entries-le;
         bounded =
             record {
@@ -75,7 +76,7 @@ module _ (ns rs : List ℕ) (q : ProfileQuestion) (es : List ℕ) where
   profile-asks e =
       let c = profile-cleared ns rs q (length es) e in
       record {
-        roads-ranged = all-ranged ns rs (c .records-ok);
+        roads-ranged = record { ranged = all-ranged ns rs (c .records-ok) };
         entries-le = c .entries-le;
         battery-le = battery-whole (q .battery) (c .battery-ok) .draw-le;
       }
