@@ -1,6 +1,6 @@
 -- The order of refusals: the first test that fails gives its refusal.
 use mathlib.Core.Bool.{Bool, true, false, _&&_}
-use mathlib.Core.List.{List, [], _∷_}
+use mathlib.Core.List.{List, [], _∷_, _++_}
 use Prim.Native.Nat.{ℕ, zero, suc, _+_}
 use Rattle.battery.specs.declared.Road.{Road}
 use Rattle.network.specs.Files.{roadCount, roadOf, potential, junctionFile, roadFile, isJunction, inRange, passes}
@@ -41,6 +41,10 @@ recordFault ns k r =
 abbrev pub recordsFault : List ℕ → List ℕ → Checked
 recordsFault ns rs = firstFrom (λ k. recordFault ns k (roadOf rs k)) (roadCount rs) 0
 
+-- 1, 2: the sizes of the two files
+abbrev pub fileTests : List ℕ → List ℕ → List Checked
+fileTests ns rs = unless (junctionFile ns) JunctionFile ∷ unless (roadFile rs) RoadFile ∷ []
+
 -- network check: 1, 2, then the records
 unfoldable pub checkFault : List ℕ → List ℕ → Checked
-checkFault ns rs = firstOf (unless (junctionFile ns) JunctionFile ∷ unless (roadFile rs) RoadFile ∷ recordsFault ns rs ∷ [])
+checkFault ns rs = firstOf (fileTests ns rs ++ (recordsFault ns rs ∷ []))

@@ -5,7 +5,7 @@ ghost use Prim.Native.Nat.{_<_};
 ghost use lib.IntN.{_-ℤ_, _+ℤ_};
 ghost use Rattle.network.specs.Files.{junctions, roadCount, roadOf, potential, junctionFile, roadFile, inRange, passes};
 ghost use Rattle.network.specs.Refusals.{numberOf, placeOf};
-ghost use Rattle.network.specs.Check.{recordFault, recordsFault, checkFault};
+ghost use Rattle.network.specs.Check.{firstOf, fileTests, recordFault, recordsFault, checkFault};
 use battery::Road;
 
 // The records of the two files, and how many there may be.
@@ -93,17 +93,28 @@ pub fn place(r: Refusal) -> u64
 pub fn check(nodes: &[u8], roads: &[u8]) -> Checked
     ensures { λ r. ⌜ r ≡ checkFault (now (nodes .entry)) (now (roads .entry)) ⌝ }
 {
+    let files = check_files(nodes, roads);
+    if let Checked::Refused(r) = files {
+        return Checked::Refused(r);
+    }
+    check_records(nodes, roads)
+}
+
+// The sizes of the two files: 1, 2.
+pub fn check_files(nodes: &[u8], roads: &[u8]) -> Checked
+    ensures { λ r. ⌜ r ≡ firstOf (fileTests (now (nodes .entry)) (now (roads .entry))) ⌝ }
+{
     if !is_junction_file(nodes) {
         return Checked::Refused(Refusal::JunctionFile);
     }
     if !is_road_file(roads) {
         return Checked::Refused(Refusal::RoadFile);
     }
-    check_records(nodes, roads)
+    Checked::Passed
 }
 
 // 1 to 2,048 whole records.
-pub fn is_junction_file(nodes: &[u8]) -> bool
+fn is_junction_file(nodes: &[u8]) -> bool
     ensures { λ r. ⌜ r ≡ junctionFile (now (nodes .entry)) ⌝ }
 {
     if nodes.len() == 0 {
@@ -116,7 +127,7 @@ pub fn is_junction_file(nodes: &[u8]) -> bool
 }
 
 // 0 to 8,192 whole records.
-pub fn is_road_file(roads: &[u8]) -> bool
+fn is_road_file(roads: &[u8]) -> bool
     ensures { λ r. ⌜ r ≡ roadFile (now (roads .entry)) ⌝ }
 {
     if roads.len() % ROAD_BYTES != 0 {

@@ -3,10 +3,10 @@ use mathlib.Core.List.{List, [], _∷_, _++_}
 use Prim.Native.Nat.{ℕ}
 use lib.Dec.{leb}
 use lib.IntN.{ℤ}
-use Rattle.network.specs.Check.{unless, recordsFault}
-use Rattle.network.specs.Files.{junctionFile, roadFile, isJunction}
+use Rattle.network.specs.Check.{unless, fileTests, recordsFault}
+use Rattle.network.specs.Files.{isJunction}
 use Rattle.network.specs.declared.Checked.{Checked}
-use Rattle.network.specs.declared.Refusal.the-variants.{JunctionFile, RoadFile, Battery, Start, NoJunction, LongRoute}
+use Rattle.network.specs.declared.Refusal.the-variants.{Battery, Start, NoJunction, LongRoute}
 use Rattle.routes.specs.Places.{mostEntries}
 use Rattle.planner.specs.Order.{isBattery, isStart}
 use Rattle.planner.specs.declared.DriveQuestion.{DriveQuestion}
@@ -14,7 +14,7 @@ use Rattle.planner.specs.declared.ProfileQuestion.{ProfileQuestion}
 
 -- 1, 2, 3
 abbrev pub beforeBattery : List ℕ → List ℕ → ℤ → List Checked
-beforeBattery ns rs m = unless (junctionFile ns) JunctionFile ∷ unless (roadFile rs) RoadFile ∷ unless (isBattery m) Battery ∷ []
+beforeBattery ns rs m = fileTests ns rs ++ (unless (isBattery m) Battery ∷ [])
 
 -- 5 (source), 11, the records
 abbrev pub beforeRoute : List ℕ → List ℕ → ℕ → ℕ → List Checked

@@ -170,11 +170,9 @@ fn check_profile(nodes: &[u8], roads: &[u8], question: ProfileQuestion, entries:
 fn check_battery(nodes: &[u8], roads: &[u8], battery: i64) -> Checked
     ensures { λ r. ⌜ r ≡ firstOf (beforeBattery (now (nodes .entry)) (now (roads .entry)) battery) ⌝ }
 {
-    if !network::is_junction_file(nodes) {
-        return Checked::Refused(Refusal::JunctionFile);
-    }
-    if !network::is_road_file(roads) {
-        return Checked::Refused(Refusal::RoadFile);
+    let files = network::check_files(nodes, roads);
+    if let Checked::Refused(r) = files {
+        return Checked::Refused(r);
     }
     if !is_battery(battery) {
         return Checked::Refused(Refusal::Battery);
