@@ -12,7 +12,8 @@ use Rattle.numbers.specs.Signed.{draw, gain}
 use Rattle.battery.specs.declared.Road.{Road}
 use Rattle.network.specs.Claims.{NoClosedGain, CheckedPassing}
 use Rattle.network.specs.Files.{roadOf, potential, passes, Passing}
-use Rattle.network.specs.Walks.{Walk, stay, go, roadsOf, sumOf}
+use Rattle.network.specs.Walks.{Walk, roadsOf, sumOf}
+use Rattle.walks.specs.Walk.{stay, go}
 use Rattle.network.proofs.Records.{all-sound}
 
 -- a road that passes, in naturals

@@ -10,7 +10,8 @@ use lib.ListN.{length}
 use Rattle.network.proofs.Faults.{each-passed, unless-passed, all-passed, none-fails}
 use Rattle.network.specs.Check.{unless}
 use Rattle.network.specs.Files.{roadCount, roadOf}
-use Rattle.network.specs.Walks.{Walk, stay, go}
+use Rattle.network.specs.Walks.{Walk}
+use Rattle.walks.specs.Walk.{stay, go}
 use Rattle.network.specs.declared.Refusal.the-variants as refusal
 use Rattle.network.specs.declared.Checked.{Checked}
 use Rattle.network.specs.declared.Checked.the-variants.{Passed}
