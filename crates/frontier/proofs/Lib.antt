@@ -1,0 +1,4 @@
+mod Level
+mod Top
+mod Queue
+pub mod Empty

@@ -1,0 +1,19 @@
+-- `frontier::best8` meets its contract. Assumes nothing.
+use native.Mathlib.Omega.{arith}
+use borrow.Author.Needs.{needs}
+use Rattle.frontier.proofs.Level.{run-join}
+use Rattle.frontier.proofs.best8.Statement.{statement}
+use Rattle.frontier.proofs.best8.Tie as tie
+
+returns : tie.Need-returns
+returns c = run-join (c .before .before .best4 .ensures) (c .before .best42 .ensures) (c .larger .ensures) (omega arith)
+
+pub best8-spec : {M : Type 1} → statement M
+best8-spec =
+    tie.close
+    (tie.spec
+    (λ c κs. search needs)
+    (λ c. search needs)
+    (λ c κs. search needs)
+    (λ c κs. search needs)
+    returns)

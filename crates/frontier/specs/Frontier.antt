@@ -1,0 +1,64 @@
+-- The queue of a search, as a tree in one list: entry i is the greatest of the group of eight i + 1, for three levels, and then
+-- come the keys. It may have any whole number of groups; past the end every entry is 0.
+use mathlib.Core.Path.{_≡_}
+use mathlib.Core.List.{List}
+use mathlib.Core.Logic.{_⊎_, _≢_}
+use Prim.Native.Nat.{ℕ, _+_, _/_, _%_, _≤_, _<_}
+use lib.ListN.{length, getD}
+
+-- how many places a key can tell
+abbrev pub places : ℕ
+places = 4096
+
+-- where the keys begin: after 8, 64 and 512 entries
+abbrev pub keysFrom : ℕ
+keysFrom = 584
+
+abbrev pub entry : List ℕ → ℕ → ℕ
+entry queue i = getD queue i 0
+
+-- the key of place v, 0 where it does not wait
+abbrev pub keyAt : List ℕ → ℕ → ℕ
+keyAt queue v = entry queue (keysFrom + v)
+
+-- m is the greatest of the eight of f in group i
+pub record Greatest (f : ℕ → ℕ) (i m : ℕ) : Type 0 where
+  pub most : (j : ℕ) → j / 8 ≡ i → f j ≤ m
+  pub is : (j : ℕ) × (j / 8 ≡ i) × (f j ≡ m)
+
+-- f' is f with x at a
+pub record Put (f f' : ℕ → ℕ) (a x : ℕ) : Type 0 where
+  pub here : f' a ≡ x
+  pub rest : (i : ℕ) → i ≢ a → f' i ≡ f i
+
+-- a queue
+pub record Frontier (queue : List ℕ) : Type 0 where
+  pub long : keysFrom ≤ length queue
+  pub whole : length queue % 8 ≡ 0
+  pub tells : (v : ℕ) → 0 < keyAt queue v → keyAt queue v % places ≡ v
+  pub level : (i : ℕ) → i < keysFrom → Greatest (entry queue) (i + 1) (entry queue i)
+
+-- top is the greatest key, and 0 where none waits
+pub record Top (queue : List ℕ) (top : ℕ) : Type 0 where
+  pub most : (v : ℕ) → keyAt queue v ≤ top
+  pub is : (top ≡ 0) ⊎ (keyAt queue (top % places) ≡ top)
+
+-- the place v may get this key, where top is the greatest
+pub record Raises (queue : List ℕ) (top v key : ℕ) : Type 0 where
+  pub frontier : Frontier queue
+  pub best : Top queue top
+  pub within : keysFrom + v < length queue
+  pub tells : 0 < key → key % places ≡ v
+
+-- the place v may be taken out
+pub record Removes (queue : List ℕ) (v : ℕ) : Type 0 where
+  pub frontier : Frontier queue
+  pub within : keysFrom + v < length queue
+  pub placed : v < places
+
+-- queue' is the queue with this key at v; r is its greatest key
+pub record Now (queue : List ℕ) (v key : ℕ) (queue' : List ℕ) (r : ℕ) : Type 0 where
+  pub put : Put (keyAt queue) (keyAt queue') v key
+  pub long : length queue' ≡ length queue
+  pub frontier : Frontier queue'
+  pub best : Top queue' r

@@ -1,0 +1,5 @@
+mod Counting
+mod Settling
+mod Relaxing
+mod Tracing
+mod Finishing

@@ -1,0 +1,185 @@
+-- The state where a search begins, and when the junction with the greatest key is settled. Assumes nothing.
+use mathlib.Core.Path.{_≡_, refl, sym, ap, _∙_}
+use mathlib.Core.Logic.{_≢_}
+use Prim.Native.Nat.{ℕ, zero, suc, _+_, _≤_, _<_}
+use native.Mathlib.Decide.{decLt, ℕ-discrete}
+use native.Mathlib.Omega.{arith}
+use Rattle.frontier.specs.Frontier.{Put}
+use Rattle.walks.specs.Label.{Net}
+use Rattle.search.specs.State.{Settled, due, unsettled, Via, State, Kept, Busy, Idle, Next}
+use Rattle.search.proofs.Counting.{due-some, settled-due, unsettled-one, unsettled-all}
+
+-- ---- a function changed at one place
+
+pickDec : {P : Type 0} → Dec P → ℕ → ℕ → ℕ
+pickDec (yes p) x y = x
+pickDec (no p) x y = y
+
+put : (ℕ → ℕ) → ℕ → ℕ → ℕ → ℕ
+put f a x i = pickDec (ℕ-discrete i a) x (f i)
+
+put-is : (f : ℕ → ℕ) (a x : ℕ) → Put f (put f a x) a x
+unfolding put pickDec
+put-is f a x = record { here = at-a (ℕ-discrete a a); rest = λ i h. at-i i h (ℕ-discrete i a) }
+  where
+    at-a : (d : Dec (a ≡ a)) → pickDec d x (f a) ≡ x
+    at-a (yes p) = refl
+    at-a (no p) = absurd (p refl)
+
+    at-i : (i : ℕ) → i ≢ a → (d : Dec (i ≡ a)) → pickDec d x (f i) ≡ f i
+    at-i i h (yes p) = absurd (h p)
+    at-i i h (no p) = refl
+
+-- ---- the beginning: the source alone has a label, and waits
+
+module _ (N : Net) (psi : ℕ → ℕ) (n s l : ℕ) (L W K L' K' : ℕ → ℕ) (none : (v : ℕ) → L v ≡ 0) (empty : (v : ℕ) → K v ≡ 0)
+    (p : Put L L' s l) (q : Put K K' s (l + psi s)) (some : 0 < l) (within : s < n) where
+  only : (v : ℕ) → 0 < L' v → Dec (v ≡ s) → v ≡ s
+  only v h (yes e) = e
+  only v h (no e) = absurd (omega (arith, p .rest v e, none v))
+
+  only-key : (v : ℕ) → 0 < K' v → Dec (v ≡ s) → v ≡ s
+  only-key v h (yes e) = e
+  only-key v h (no e) = absurd (omega (arith, q .rest v e, empty v))
+
+  labelled : (v : ℕ) → 0 < L' v → v ≡ s
+  labelled v h = only v h (ℕ-discrete v s)
+
+  keyed : (v : ℕ) → 0 < K' v → v ≡ s
+  keyed v h = only-key v h (ℕ-discrete v s)
+
+  waits : (v : ℕ) → 0 < L' v → 0 < K' v
+  waits v h = omega (arith, ap K' (labelled v h), q .here)
+
+  unset : (v : ℕ) → Settled L' K' v → ⊥
+  unset v t = omega (arith, waits v (t .labelled), t .taken)
+
+  pub begin : Idle N psi n s l 0 L' W K'
+  begin =
+      record {
+        state =
+            record {
+              rank = λ v. 0;
+              rank-le = λ v. omega arith;
+              rank-pos = λ v t. absurd (unset v t);
+              counted = omega (arith, unsettled-all L' K' waits n);
+              inside = λ v h. omega (arith, labelled v h);
+              start = p .here;
+              some = some;
+              alone = λ v h k. labelled v h;
+              waits = λ v h. omega (arith, ap L' (keyed v h), p .here);
+              keyed = λ v h. omega (arith, ap K' (keyed v h), ap L' (keyed v h), ap psi (keyed v h), p .here, q .here);
+              ordered = λ u v t h. absurd (unset u t);
+              via = λ v h e. absurd (e (labelled v h));
+            };
+        relaxed = λ k h t. absurd (unset _ t);
+      }
+
+-- ---- settling the junction u that is next
+
+module _ (N : Net) (psi : ℕ → ℕ) (n s l turns u : ℕ) (L W K K' : ℕ → ℕ) (i : Idle N psi n s l turns L W K) (x : Next K u)
+    (q : Put K K' u 0) where
+  rank : ℕ → ℕ
+  rank = put (i .state .rank) u (suc turns)
+
+  ranked : Put (i .state .rank) rank u (suc turns)
+  unfolding rank
+  ranked = put-is (i .state .rank) u (suc turns)
+
+  has : 0 < L u
+  has = i .state .waits u (x .waiting)
+
+  -- a junction settled before is another one, and stays settled
+  before : (v : ℕ) → Settled L K v → v ≢ u
+  before v t e = omega (arith, ap K e, t .taken, x .waiting)
+
+  stays : (v : ℕ) → Settled L K v → Settled L K' v
+  stays v t = record { labelled = t .labelled; taken = q .rest v (before v t) ∙ t .taken }
+
+  -- a junction settled now is u or was settled before
+  was : (v : ℕ) → Settled L K' v → v ≢ u → Settled L K v
+  was v t e = record { labelled = t .labelled; taken = sym (q .rest v e) ∙ t .taken }
+
+  pub now : Settled L K' u
+  now = record { labelled = has; taken = q .here }
+
+  rank-le : (v : ℕ) → Dec (v ≡ u) → rank v ≤ suc turns
+  rank-le v (yes e) = omega (arith, ap rank e, ranked .here)
+  rank-le v (no e) = omega (arith, ranked .rest v e, i .state .rank-le v)
+
+  rank-pos : (v : ℕ) → Settled L K' v → Dec (v ≡ u) → 0 < rank v
+  rank-pos v t (yes e) = omega (arith, ap rank e, ranked .here)
+  rank-pos v t (no e) = omega (arith, ranked .rest v e, i .state .rank-pos v (was v t e))
+
+  -- a junction that waits now waited before
+  waited : (v : ℕ) → 0 < K' v → Dec (v ≡ u) → K v ≡ K' v
+  waited v h (yes e) = absurd (omega (arith, ap K' e, q .here))
+  waited v h (no e) = sym (q .rest v e)
+
+  least : (w v : ℕ) → Settled L K' w → 0 < K' v → Dec (w ≡ u) → K' v ≤ L w + psi w
+  least w v t h (yes e) =
+      omega (
+        arith,
+        waited v h (ℕ-discrete v u),
+        x .most v,
+        i .state .keyed u (x .waiting),
+        ap L e,
+        ap psi e,
+      )
+  least w v t h (no e) =
+      let y = waited v h (ℕ-discrete v u) in
+      omega (arith, i .state .ordered w v (was w t e) (omega arith))
+
+  via : (v : ℕ) → Via N (i .state .rank) L W K v → Via N rank L W K' v
+  via v d =
+      record {
+        road = d .road;
+        here = d .here;
+        from = stays _ (d .from);
+        earlier = λ t. earlier t (ℕ-discrete v u);
+        exact = d .exact;
+      }
+    where
+      tail-rank : rank (N .roads .tail (W v)) ≡ i .state .rank (N .roads .tail (W v))
+      tail-rank = ranked .rest _ (before _ (d .from))
+
+      earlier : Settled L K' v → Dec (v ≡ u) → rank (N .roads .tail (W v)) < rank v
+      earlier t (yes e) = omega (arith, tail-rank, i .state .rank-le (N .roads .tail (W v)), ap rank e, ranked .here)
+      earlier t (no e) = omega (arith, tail-rank, d .earlier (was v t e), ranked .rest v e)
+
+  latest : (w : ℕ) → Settled L K' w → Dec (w ≡ u) → L u + psi u ≤ L w + psi w
+  latest w t (yes e) = omega (arith, ap L e, ap psi e)
+  latest w t (no e) = omega (arith, i .state .ordered w u (was w t e) (x .waiting), i .state .keyed u (x .waiting))
+
+  relaxed : (k : ℕ) → k < N .roads .count → Settled L K' (N .roads .tail k) → (N .roads .tail k ≡ u → N .roads .count ≤ k)
+      → Dec (N .roads .tail k ≡ u) → Kept N L k
+  relaxed k h t m (yes e) = absurd (omega (arith, m e))
+  relaxed k h t m (no e) = i .relaxed k h (was _ t e)
+
+  one-less : suc (unsettled L K' n) ≡ unsettled L K n
+  one-less =
+      unsettled-one L K L K' u (due-some (L u) (K u) (λ _. x .waiting)) (settled-due now)
+      (λ v e. ap (due (L v)) (q .rest v e)) n (i .state .inside u has)
+
+  pub settle : Busy N psi n s l (suc turns) u (N .roads .count) L W K'
+  settle =
+      record {
+        state =
+            record {
+              rank = rank;
+              rank-le = λ v. rank-le v (ℕ-discrete v u);
+              rank-pos = λ v t. rank-pos v t (ℕ-discrete v u);
+              counted = omega (arith, i .state .counted, one-less);
+              inside = i .state .inside;
+              start = i .state .start;
+              some = i .state .some;
+              alone = λ v h k. i .state .alone v h (omega (arith, waited s k (ℕ-discrete s u)));
+              waits = λ v h. i .state .waits v (omega (arith, waited v h (ℕ-discrete v u)));
+              keyed = λ v h. let y = waited v h (ℕ-discrete v u) in omega (arith, i .state .keyed v (omega arith));
+              ordered = λ w v t h. least w v t h (ℕ-discrete w u);
+              via = λ v h e. via v (i .state .via v h e);
+            };
+        settled = now;
+        latest = λ w t. latest w t (ℕ-discrete w u);
+        relaxed = λ k h t m. relaxed k h t m (ℕ-discrete (N .roads .tail k) u);
+      }

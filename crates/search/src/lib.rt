@@ -1,0 +1,1 @@
+// The search for the best label of each junction.
