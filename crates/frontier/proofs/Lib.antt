@@ -1,3 +1,4 @@
+pub mod Stores
 mod Level
 mod Top
 mod Queue

@@ -8,12 +8,9 @@ use lib.ListN.{length, set, length-set}
 use lib.Seq.{getD-set-same, getD-set-other, set-set, set-getD}
 use Rattle.frontier.specs.Frontier.{places, keysFrom, entry, keyAt, Put, Frontier, Raises, Removes, Now}
 use Rattle.frontier.specs.Groups.{Run, Regrouped, Lifted}
+use Rattle.frontier.proofs.Stores.{put-of}
 use Rattle.frontier.proofs.Level.{above₁, above₂, above₃, Levels, Due, run-group, greatest-raise, due-key, due-next, due-raise, due-top}
 use Rattle.frontier.proofs.Top.{top-of, top-raise}
-
-put-of : (queue : List ℕ) {queue' : List ℕ} {a x : ℕ} → a < length queue → queue' ≡ set queue a x → Put (entry queue) (entry queue') a x
-put-of queue {queue'} {a} {x} l e =
-    rw e (record { here = getD-set-same queue a x 0 l; rest = λ i h. getD-set-other queue a i x 0 h })
 
 -- the greatest of a group, from that of the group without x
 pub regrouped : (queue : List ℕ) (a x : ℕ) {m r : ℕ} → a < length queue

@@ -192,7 +192,7 @@ fn check_record(nodes: &[u8], k: usize, road: Road) -> Checked
 }
 
 // The potential of junction v.
-fn potential_at(nodes: &[u8], v: usize) -> i32
+pub fn potential_at(nodes: &[u8], v: usize) -> i32
     requires { ⌜ v < junctions (now nodes) ⌝ }
     ensures { λ r. ⌜ r ≡ potential (now (nodes .entry)) v ⌝ }
 {

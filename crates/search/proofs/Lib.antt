@@ -1,5 +1,13 @@
+pub mod Laws
 mod Counting
 mod Settling
 mod Relaxing
 mod Tracing
 mod Finishing
+mod Offering
+mod Roads
+mod Linking
+mod Writing
+mod Spreading
+mod Exploring
+mod Finding

@@ -107,9 +107,6 @@ module _ (N : Net) (psi : ℕ → ℕ) (n s l turns u k : ℕ) (L W K : ℕ → 
     ordered a y t h (no e) =
         omega (arith, q .rest y e, p .rest a (not-v a t), b .state .ordered a y (was a t) (omega (arith, q .rest y e)))
 
-    rank : ℕ → ℕ
-    rank = b .state .rank
-
     -- the way of v is now road k
     via-v : (y : ℕ) → y ≡ v → Via N (b .state .rank) L' W' K' y
     via-v y e =
@@ -158,6 +155,9 @@ module _ (N : Net) (psi : ℕ → ℕ) (n s l turns u k : ℕ) (L W K : ℕ → 
         let f : N .step j (L' (N .roads .tail j)) ≡ x =
         ap (N .step j) (p .rest _ (other _ t)) ∙ (λ i. N .step (e i) (L ((ap (N .roads .tail) e ∙ here) i))) ∙ brings in
         omega (arith, f, ap L' (ap (N .roads .head) e ∙ there), p .here)
+
+    pub keeps-u : L' u ≡ L u
+    keeps-u = p .rest u (other u (b .settled))
 
     pub take : Busy N psi n s l turns u k L' W' K'
     take =

@@ -1,1 +1,329 @@
-// The search for the best label of each junction.
+// The search for the best label of each junction, and the route that brings it. A label is a charge plus one, and 0 is none.
+ghost use mathlib.Core.Path.{_≡_};
+ghost use Prim.Native.Nat.{_+_, min};
+ghost use Rattle.frontier.specs.Frontier.{entry};
+ghost use Rattle.network.specs.Files.{junctions, roadCount};
+ghost use Rattle.search.specs.Chains.{Chained, ChainAsks};
+ghost use Rattle.search.specs.Found.{Finds};
+ghost use Rattle.search.specs.Reading.{entered, left, stepForward, stepOf, psiForward, psiOf, psi, net};
+ghost use Rattle.search.specs.Steps.{StepAsks, better, packed, KeyAsks, OfferAsks, Offered, RelaxAsks, RelaxKeeps, SpreadAsks, SpreadKeeps, ExploreAsks, Explored, FindAsks};
+ghost use Rattle.search.specs.Trails.{Trailed, Counted, WriteAsks, Written};
+use battery::Road;
+
+// In which sense roads are read: forward, from tail to head, a label being the charge that a van has, plus one.
+pub enum Sense {
+    Forward,
+}
+
+// How roads are read.
+pub struct Reading {
+    pub sense: Sense,
+    pub battery: u32,
+}
+
+// From where a search sets out and with what label, and the junction where it may stop; a target that is no junction never
+// stops it.
+pub struct Trip {
+    pub source: usize,
+    pub label: u32,
+    pub target: usize,
+}
+
+// What comes of it: how many roads the route has, or that there is none.
+pub enum Found {
+    Roads(usize),
+    Nowhere,
+}
+
+// What a road brings: its number, the label and the key.
+struct Offer {
+    road: u16,
+    label: u32,
+    key: u64,
+}
+
+// The sizes of the search's lists: one place for each junction, and one link for each junction and each road.
+const QUEUE: usize = 2632;
+
+const CHAINS: usize = 10240;
+
+impl Reading {
+    // The junction where a road is entered.
+    fn entered(self, road: Road) -> usize
+        ensures { λ r. ⌜ r ≡ entered (self .sense) road ⌝ }
+    {
+        let sense = self.sense;
+        match sense {
+            Sense::Forward => road.tail as usize,
+        }
+    }
+
+    // The junction where it is left.
+    fn left(self, road: Road) -> usize
+        ensures { λ r. ⌜ r ≡ left (self .sense) road ⌝ }
+    {
+        let sense = self.sense;
+        match sense {
+            Sense::Forward => road.head as usize,
+        }
+    }
+
+    // The label that a road brings, from a label where it is entered.
+    fn step(self, road: Road, label: u32) -> u32
+        requires { ⌜ StepAsks (self .battery) road label ⌝ }
+        ensures { λ r. ⌜ r ≡ stepOf (self .sense) (self .battery) road label ⌝ }
+    {
+        let sense = self.sense;
+        match sense {
+            Sense::Forward => step_forward(self.battery, road, label),
+        }
+    }
+
+    // The number of a junction, from its potential.
+    fn psi(self, potential: i32) -> u32
+        ensures { λ r. ⌜ r ≡ psiOf (self .sense) potential ⌝ }
+    {
+        let sense = self.sense;
+        match sense {
+            Sense::Forward => below_most(potential),
+        }
+    }
+}
+
+// By the battery rule: the smaller of charge - consumption and the battery size, as labels.
+fn step_forward(battery: u32, road: Road, label: u32) -> u32
+    requires { ⌜ StepAsks battery road label ⌝ }
+    ensures { λ r. ⌜ r ≡ stepForward battery road label ⌝ }
+{
+    let takes = numbers::drawn(road.consumption);
+    let has = label + numbers::gained(road.consumption);
+    if takes < has {
+        smaller(has - takes, battery + 1)
+    } else {
+        0
+    }
+}
+
+fn smaller(x: u32, y: u32) -> u32
+    ensures { λ r. ⌜ r ≡ min x y ⌝ }
+{
+    if x < y { x } else { y }
+}
+
+// How far a potential stands below the largest.
+fn below_most(potential: i32) -> u32
+    ensures { λ r. ⌜ r ≡ psiForward potential ⌝ }
+{
+    numbers::whole(2147483647 - potential as i64)
+}
+
+// The best route from the trip's source to its target, written at the front of the list.
+pub fn find(nodes: &[u8], roads: &[u8], reading: Reading, trip: Trip, list: &mut [u16]) -> Found
+    requires { ⌜ FindAsks reading (now nodes) (now roads) trip (now list) ⌝ }
+    ensures { λ r. ⌜ Finds (net reading (now (roads .entry))) (trip .source) (trip .label) (trip .target) (now (list .entry)) r (now (list .exit)) ⌝ }
+{
+    let mut chains = [0u16; CHAINS];
+    let mut labels = [0u32; network::MOST_JUNCTIONS];
+    let mut ways = [0u16; network::MOST_JUNCTIONS];
+    let mut queue = [0u64; QUEUE];
+    chain(roads, reading, &mut chains);
+    explore(
+        nodes,
+        roads,
+        reading,
+        &chains,
+        trip,
+        &mut labels,
+        &mut ways,
+        &mut queue,
+    );
+    let target = trip.target;
+    if labels[target] == 0 {
+        return Found::Nowhere;
+    }
+    let count = count_back(roads, reading, &ways, trip.source, target);
+    write_back(roads, reading, &ways, trip.source, target, count, list);
+    Found::Roads(count)
+}
+
+// Chains the roads: for each junction the last road entered there, for each road the previous one entered at the same
+// junction, each plus one, 0 for none.
+pub fn chain(roads: &[u8], reading: Reading, chains: &mut [u16])
+    requires { ⌜ ChainAsks (net reading (now roads) .roads) (now chains) ⌝ }
+    ensures { λ _. ⌜ Chained (net reading (now (roads .entry)) .roads) (roadCount (now (roads .entry))) (now (chains .exit)) ⌝ }
+{
+    let count = roads.len() / network::ROAD_BYTES;
+    let mut k = 0;
+    while k < count {
+        let v = reading.entered(network::road_at(roads, k));
+        chains[network::MOST_JUNCTIONS + k] = chains[v];
+        chains[v] = (k + 1) as u16;
+        k += 1;
+    }
+}
+
+// Settles one junction after another, the greatest key first, until the target is settled or none waits.
+pub fn explore(
+    nodes: &[u8],
+    roads: &[u8],
+    reading: Reading,
+    chains: &[u16],
+    trip: Trip,
+    labels: &mut [u32],
+    ways: &mut [u16],
+    queue: &mut [u64],
+)
+    requires { ⌜ ExploreAsks reading (now nodes) (now roads) (now chains) trip (now labels) (now ways) (now queue) ⌝ }
+    ensures { λ _. ⌜ Explored (net reading (now (roads .entry))) (junctions (now (nodes .entry))) trip (entry (now (labels .exit))) (entry (now (ways .exit))) ⌝ }
+{
+    let source = trip.source;
+    labels[source] = trip.label;
+    let first = key(nodes, reading, source, trip.label);
+    let mut top = frontier::raise(queue, 0, source, first);
+    loop {
+        if top == 0 {
+            return;
+        }
+        let u = (top % frontier::PLACES) as usize;
+        let rest = frontier::remove(queue, u);
+        if u == trip.target {
+            return;
+        }
+        top = spread(nodes, roads, reading, chains, u, labels, ways, queue, rest);
+    }
+}
+
+// Relaxes the roads that are entered at u, which was settled last.
+fn spread(
+    nodes: &[u8],
+    roads: &[u8],
+    reading: Reading,
+    chains: &[u16],
+    u: usize,
+    labels: &mut [u32],
+    ways: &mut [u16],
+    queue: &mut [u64],
+    top: u64,
+) -> u64
+    requires { ⌜ SpreadAsks reading (now nodes) (now roads) (now chains) u (now labels) (now ways) (now queue) top ⌝ }
+    ensures { λ r. ⌜ SpreadKeeps reading (now (nodes .entry)) (now (roads .entry)) u (now (labels .entry)) (now (ways .entry)) (now (queue .entry)) (now (labels .exit)) (now (ways .exit)) (now (queue .exit)) r ⌝ }
+{
+    let label = labels[u];
+    let mut best = top;
+    let mut next = chains[u] as usize;
+    while 0 < next {
+        let k = next - 1;
+        best = relax(nodes, roads, reading, k, label, labels, ways, queue, best);
+        next = chains[network::MOST_JUNCTIONS + k] as usize;
+    }
+    best
+}
+
+// Offers road k's end what the road brings from this label.
+fn relax(
+    nodes: &[u8],
+    roads: &[u8],
+    reading: Reading,
+    k: usize,
+    label: u32,
+    labels: &mut [u32],
+    ways: &mut [u16],
+    queue: &mut [u64],
+    top: u64,
+) -> u64
+    requires { ⌜ RelaxAsks reading (now nodes) (now roads) k label (now labels) (now ways) (now queue) top ⌝ }
+    ensures { λ r. ⌜ RelaxKeeps reading (now (nodes .entry)) (now (roads .entry)) k label (now (labels .entry)) (now (ways .entry)) (now (queue .entry)) (now (labels .exit)) (now (ways .exit)) (now (queue .exit)) r ⌝ }
+{
+    let road = network::road_at(roads, k);
+    let v = reading.left(road);
+    let brings = reading.step(road, label);
+    let offer = Offer {
+        road: k as u16,
+        label: brings,
+        key: key(nodes, reading, v, brings),
+    };
+    take(labels, ways, queue, top, v, offer)
+}
+
+// The key of junction v with this label: label and number of the junction together, and the place.
+fn key(nodes: &[u8], reading: Reading, v: usize, label: u32) -> u64
+    requires { ⌜ KeyAsks (now nodes) v ⌝ }
+    ensures { λ r. ⌜ r ≡ packed (label + psi reading (now (nodes .entry)) v) v ⌝ }
+{
+    let number = reading.psi(network::potential_at(nodes, v));
+    (label as u64 + number as u64) * frontier::PLACES + v as u64
+}
+
+// Takes the offer to v where it betters the label. There is no branch, since which it is cannot be foretold.
+fn take(
+    labels: &mut [u32],
+    ways: &mut [u16],
+    queue: &mut [u64],
+    top: u64,
+    v: usize,
+    offer: Offer,
+) -> u64
+    requires { ⌜ OfferAsks (now labels) (now ways) (now queue) top v offer ⌝ }
+    ensures { λ r. ⌜ Offered (now (labels .entry)) (now (ways .entry)) (now (queue .entry)) v offer (now (labels .exit)) (now (ways .exit)) (now (queue .exit)) r ⌝ }
+{
+    let old = labels[v];
+    labels[v] = better_label(old, offer);
+    ways[v] = better_way(old, offer, ways[v]);
+    frontier::raise(queue, top, v, better_key(old, offer))
+}
+
+fn better_label(old: u32, offer: Offer) -> u32
+    ensures { λ r. ⌜ r ≡ better old (offer .label) old (offer .label) ⌝ }
+{
+    if old < offer.label { offer.label } else { old }
+}
+
+fn better_way(old: u32, offer: Offer, way: u16) -> u16
+    ensures { λ r. ⌜ r ≡ better old (offer .label) way (offer .road) ⌝ }
+{
+    if old < offer.label { offer.road } else { way }
+}
+
+fn better_key(old: u32, offer: Offer) -> u64
+    ensures { λ r. ⌜ r ≡ better old (offer .label) 0 (offer .key) ⌝ }
+{
+    if old < offer.label { offer.key } else { 0 }
+}
+
+// How many roads lead back by the ways from the target to the source.
+fn count_back(roads: &[u8], reading: Reading, ways: &[u16], source: usize, target: usize) -> usize
+    requires { ⌜ Trailed (net reading (now roads) .roads) (now ways) source target ⌝ }
+    ensures { λ r. ⌜ Counted (net reading (now (roads .entry)) .roads) (now (ways .entry)) source target r ⌝ }
+{
+    let mut v = target;
+    let mut count = 0;
+    while v != source {
+        let k = ways[v];
+        v = reading.entered(network::road_at(roads, k as usize));
+        count += 1;
+    }
+    count
+}
+
+// Writes them at the front of the list, the last one first.
+fn write_back(
+    roads: &[u8],
+    reading: Reading,
+    ways: &[u16],
+    source: usize,
+    target: usize,
+    count: usize,
+    list: &mut [u16],
+)
+    requires { ⌜ WriteAsks (net reading (now roads) .roads) (now ways) source target count (now list) ⌝ }
+    ensures { λ _. ⌜ Written (net reading (now (roads .entry)) .roads) (now (ways .entry)) source target (now (list .entry)) (now (list .exit)) ⌝ }
+{
+    let mut v = target;
+    let mut i = count;
+    while v != source {
+        i -= 1;
+        let k = ways[v];
+        list[i] = k;
+        v = reading.entered(network::road_at(roads, k as usize));
+    }
+}

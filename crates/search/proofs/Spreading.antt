@@ -1,0 +1,161 @@
+-- The roads of the junction settled last, one after another along its chain. Assumes nothing.
+use mathlib.Core.Path.{_≡_, refl, sym, ap, _∙_, subst}
+use mathlib.Core.List.{List}
+use mathlib.Core.Logic.{_≢_}
+use Prim.Native.Nat.{ℕ, zero, suc, _+_, _-_, _*_, _/_, _≤_, _<_, max}
+use native.Mathlib.Decide.{decLt}
+use native.Mathlib.Omega.{arith}
+use Rattle.frontier.specs.Frontier.{places, entry, keyAt, Put}
+use Rattle.network.specs.Files.{junctions, roadCount, mostJunctions}
+use Rattle.walks.specs.Label.{Net, Laws}
+use Rattle.search.specs.Chains.{lastOf, previousOf, Link, Chained}
+use Rattle.search.specs.Reading.{psi, net}
+use Rattle.search.specs.State.{Busy}
+use Rattle.search.specs.Steps.{Readable, waiting, packed, Underway, Same, Change, passed, taken, RelaxAsks, Relaxed, RelaxKeeps, SpreadAsks, Spreads, SpreadKeeps}
+use Rattle.search.specs.declared.Reading.{Reading}
+use Rattle.search.proofs.Laws.{laws, heads-in, count-is}
+use Rattle.search.proofs.Relaxing.{pass, take, keeps-u}
+
+-- ---- one road
+
+module _ (N : Net) (psi : ℕ → ℕ) (n s l turns u k : ℕ) (lw : Laws N psi) (road : k < N .roads .count) (here : N .roads .tail k ≡ u)
+    (within : N .roads .head k < n) (few : n ≤ places) where
+  -- the same functions, one for the other
+  busy-same : (p : ℕ) (L W K L' W' K' : ℕ → ℕ) → Same L L' → Same W W' → Same K K'
+      → Busy N psi n s l turns u p L W K → Busy N psi n s l turns u p L' W' K'
+  busy-same p L W K L' W' K' a b c d =
+      let f : _≡_ {A = ℕ → ℕ} L L' = λ i v. sym (a v) i in
+      let g : _≡_ {A = ℕ → ℕ} W W' = λ i v. sym (b v) i in
+      let h : _≡_ {A = ℕ → ℕ} K K' = λ i v. sym (c v) i in
+      rw (← f, ← g, ← h) d
+
+  module _ (label : ℕ) (L W L' W' : ℕ → ℕ) (queue queue' : List ℕ)
+      (b : Busy N psi n s l turns u (suc k) L W (waiting queue)) (at-u : L u ≡ label) where
+    brings : N .step k (L u) ≡ N .step k label
+    brings = ap (N .step k) at-u
+
+    -- the new key is above the old one, and tells its junction
+    new-key : (v x : ℕ) → v < places → L v < x → max (keyAt queue v) (packed (x + psi v) v) / places ≡ x + psi v
+    new-key v x h m = go (decLt 0 (waiting queue v))
+      where
+        go : Dec (0 < waiting queue v) → max (keyAt queue v) (packed (x + psi v) v) / places ≡ x + psi v
+        go (yes p) = omega (arith, b .state .keyed v p)
+        go (no p) = omega arith
+
+    waiting-put : (v x : ℕ) → v < places → L v < x → Put (keyAt queue) (keyAt queue') v (max (keyAt queue v) (packed (x + psi v) v))
+        → Put (waiting queue) (waiting queue') v (x + psi v)
+    waiting-put v x h m p =
+        record {
+          here = ap (λ (y : ℕ). y / places) (p .here) ∙ new-key v x h m;
+          rest = λ i e. ap (λ (y : ℕ). y / places) (p .rest i e);
+        }
+
+    pub one-road : Relaxed N psi k label L W (keyAt queue) L' W' (keyAt queue')
+        → Busy N psi n s l turns u k L' W' (waiting queue') × (L' u ≡ L u)
+    one-road (passed h same-l same-w same-k) = (
+      busy-same k L W (waiting queue) L' W' (waiting queue') same-l same-w (λ i. ap (λ (y : ℕ). y / places) (same-k i))
+          (pass N psi n s l turns u k L W (waiting queue) b here (omega (arith, brings))),
+      same-l u,
+    )
+    one-road (taken h put-l put-w put-k) =
+        let v = N .roads .head k in
+        let x = N .step k label in
+        let q = waiting-put v x (omega arith) h put-k in (
+          take N psi n s l turns u k L W (waiting queue) b here lw road v x refl within brings h L' W' (waiting queue') put-l put-w q,
+          keeps-u N psi n s l turns u k L W (waiting queue) b here lw road v x refl within brings h L' W' (waiting queue') put-l put-w q,
+        )
+
+-- the next road of the chain: those between are entered elsewhere, so they count as relaxed
+skip : (N : Net) (psi : ℕ → ℕ) (n s l turns u p q : ℕ) (L W K : ℕ → ℕ) → Link (N .roads) u q p
+    → Busy N psi n s l turns u p L W K → Busy N psi n s l turns u q L W K
+skip N psi n s l turns u p q L W K k b =
+    record {
+      state = b .state;
+      settled = b .settled;
+      latest = b .latest;
+      relaxed = λ j h t m. b .relaxed j h t (λ e. from j (m e) e (decLt j p));
+    }
+  where
+    from : (j : ℕ) → q ≤ j → N .roads .tail j ≡ u → Dec (j < p) → p ≤ j
+    from j a e (yes h) = absurd (k .gap j a h e)
+    from j a e (no h) = omega arith
+
+-- ---- the loop: from the last road down to `next`
+
+pub record SpreadLoop (rd : Reading) (ns rs : List ℕ) (u next : ℕ) (labels ways queue labels' ways' queue' : List ℕ) (top : ℕ) : Type 0 where
+  pub underway : Underway rd labels' ways' queue' top
+  pub low : next ≤ roadCount rs
+  pub hit : (j : ℕ) → next ≡ j + 1 → net rd rs .roads .tail j ≡ u
+  pub spreads : Spreads rd ns rs u (roadCount rs) next labels ways queue labels' ways' queue'
+
+module _ (rd : Reading) (ns rs chains : List ℕ) (u : ℕ) (labels ways queue : List ℕ) (top : ℕ)
+    (a : SpreadAsks rd ns rs chains u labels ways queue top) where
+  pub spread-start : SpreadLoop rd ns rs u (entry chains u) labels ways queue labels ways queue top
+  spread-start =
+      let k = a .chained .lasts u (a .within) in
+      record {
+        underway = a .underway;
+        low = k .low;
+        hit = k .hit;
+        spreads = λ s l turns b. (skip _ _ _ _ _ _ _ _ _ _ _ _ k b, refl);
+      }
+
+  module _ (next : ℕ) (labels₁ ways₁ queue₁ : List ℕ) (top₁ : ℕ)
+      (i : SpreadLoop rd ns rs u next labels ways queue labels₁ ways₁ queue₁ top₁) (some : 0 < next) where
+    next-is : next ≡ next - 1 + 1
+    next-is = omega arith
+
+    pub is-road : next - 1 < roadCount rs
+    is-road = omega (arith, i .low)
+
+    pub relax-asks : RelaxAsks rd ns rs (next - 1) (entry labels u) labels₁ ways₁ queue₁ top₁
+    relax-asks =
+        record {
+          readable = a .readable;
+          underway = i .underway;
+          road = is-road;
+          some = a .some;
+          label-le = a .underway .bounded u;
+        }
+
+    previous : Link (net rd rs .roads) u (previousOf chains (next - 1)) (next - 1)
+    previous =
+        subst (λ (v : ℕ). Link (net rd rs .roads) v (previousOf chains (next - 1)) (next - 1)) (i .hit (next - 1) next-is)
+        (a .chained .previous (next - 1) is-road)
+
+    pub falls : previousOf chains (next - 1) < next
+    falls = omega (arith, previous .low)
+
+    module _ (labels₂ ways₂ queue₂ : List ℕ) (top₂ : ℕ)
+        (r : RelaxKeeps rd ns rs (next - 1) (entry labels u) labels₁ ways₁ queue₁ labels₂ ways₂ queue₂ top₂) where
+      on : Spreads rd ns rs u (roadCount rs) (previousOf chains (next - 1)) labels ways queue labels₂ ways₂ queue₂
+      on s l turns b =
+          let k = next - 1 in
+          let c = i .spreads s l turns b in
+          let e : next ≡ suc k = omega arith in
+          let d = subst (λ (p : ℕ). Busy (net rd rs) (psi rd ns) (junctions ns) s l turns u p (entry labels₁) (entry ways₁) (waiting queue₁)) e (c .0) in
+          let o =
+          one-road (net rd rs) (psi rd ns) (junctions ns) s l turns u k (laws rd ns rs (a .readable))
+          (omega (arith, is-road, count-is rd rs)) (i .hit k next-is) (heads-in rd ns rs (a .readable) k is-road)
+          (omega (arith, a .readable .few)) (entry labels u) (entry labels₁) (entry ways₁) (entry labels₂) (entry ways₂)
+          queue₁ queue₂ d (c .1) (r .relaxed)
+          in
+          (skip _ _ _ _ _ _ _ _ _ _ _ _ previous (o .0), o .1 ∙ c .1)
+
+      pub spread-next : SpreadLoop rd ns rs u (previousOf chains (next - 1)) labels ways queue labels₂ ways₂ queue₂ top₂
+      spread-next =
+          record {
+            underway = r .underway;
+            low = omega (arith, falls, i .low);
+            hit = previous .hit;
+            spreads = on;
+          }
+
+  pub spread-done : (next : ℕ) (labels₁ ways₁ queue₁ : List ℕ) (top₁ : ℕ)
+      → SpreadLoop rd ns rs u next labels ways queue labels₁ ways₁ queue₁ top₁ → next ≡ 0
+      → SpreadKeeps rd ns rs u labels ways queue labels₁ ways₁ queue₁ top₁
+  spread-done next labels₁ ways₁ queue₁ top₁ i e =
+      record {
+        underway = i .underway;
+        spreads = subst (λ (p : ℕ). Spreads rd ns rs u (roadCount rs) p labels ways queue labels₁ ways₁ queue₁) e (i .spreads);
+      }

@@ -1,0 +1,73 @@
+-- `search::chain` meets its contract. Invariant: the roads below k are chained. Measure: the roads left. Assumes nothing.
+use mathlib.Core.Path.{_≡_}
+use Prim.Native.Nat.{_+_, _-_, _/_, _≤_, _<_}
+use native.Mathlib.Omega.{arith}
+use borrow.Author.Needs.{needs}
+use lib.ListN.{length, length-set}
+use Rattle.network.specs.Files.{roadCount, mostJunctions}
+use Rattle.search.proofs.Laws.{tail-at}
+use Rattle.search.proofs.Linking.{chained-none, chained-more}
+use Rattle.search.specs.Chains.{Chained}
+use Rattle.search.specs.Reading.{net}
+use Rattle.search.proofs.chain.Statement.{statement}
+use Rattle.search.proofs.chain.Tie as tie
+
+abbrev Inv-loop : tie.InvT-loop
+Inv-loop roads reading chains₀ count k₀ chains k = (k ≤ roadCount roads) × Chained (net reading roads .roads) k chains
+
+abbrev μ-loop : tie.MeasureT-loop
+μ-loop roads reading chains₀ count k₀ chains k = count - k
+
+-- the junction where road k is entered
+at-v : (c : tie.After-entered Inv-loop μ-loop) → c .entered .result ≡ net (c .before .before .before .before .before .before .args .reading) (c .before .before .before .before .before .before .args .roads .now) .roads .tail (c .before .before .before .loop .k)
+at-v c = tail-at _ _ _ _ _ (c .entered .ensures) (c .before .road-at .ensures)
+
+within : (c : tie.After-entered Inv-loop μ-loop) → c .entered .result < mostJunctions
+unfolding net
+within c = omega (arith, at-v c, c .before .before .before .before .before .before .pre .within (c .before .before .before .loop .k) (c .before .before .loop-test .taken))
+
+few : (c : tie.After-entered Inv-loop μ-loop) → c .before .before .before .loop .k < 8192
+unfolding net
+few c = omega (arith, c .before .before .loop-test .taken, c .before .before .before .before .before .before .pre .few)
+
+long : (c : tie.After-entered Inv-loop μ-loop) → length (c .before .before .before .loop .chains) ≡ 10240
+long c = c .before .before .before .loop .inv .1 .long
+
+loop-holds : tie.Need-loop-holds Inv-loop μ-loop
+loop-holds c = (omega arith, chained-none _ _ (c .before .before .pre))
+
+loop-again : tie.Need-loop-again Inv-loop μ-loop
+loop-again c =
+    let e = c .before in (
+      omega (arith, e .before .before .loop-test .taken),
+      chained-more _ _ _ (e .before .before .before .loop .inv .1) (few e) _ (at-v e) (within e),
+    )
+
+returns : tie.Need-returns Inv-loop μ-loop
+returns c =
+    let done : c .before .loop .k ≡ roadCount (c .before .before .before .before .args .roads .now) = omega (arith, c .before .loop .inv .0, c .loop-test .left) in
+    rw done at (c .before .loop .inv .1)
+
+pub chain-spec : {M : Type 1} → statement M
+chain-spec =
+    tie.close
+    (tie.spec
+    Inv-loop
+    μ-loop
+    loop-holds
+    (λ c κs. c .loop-test .taken)
+    (λ c κs. search needs)
+    (λ c. omega (arith, within c))
+    (λ c. omega (arith, within (c .before), long (c .before)))
+    (λ c. omega (arith, few (c .before)))
+    (λ c. omega (arith, few (c .before)))
+    (λ c. omega (arith, few (c .before), long (c .before)))
+    (λ c. omega (arith, few (c .before)))
+    (λ c. omega (arith, few (c .before)))
+    (λ c. omega (arith, within (c .before)))
+    (λ c. simp length-set (omega (arith, within (c .before), long (c .before))))
+    (λ c. omega (arith, few (c .before)))
+    (λ c. omega (arith, c .before .before .before .loop-test .taken))
+    loop-again
+    (λ c. omega (arith, c .before .loop .inv .1 .long, c .before .before .before .before .pre .long))
+    returns)

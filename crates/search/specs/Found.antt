@@ -1,0 +1,16 @@
+-- What a search promises: a route that brings the best label of all walks, written at the front of the list, or that no walk
+-- brings any.
+use mathlib.Core.Path.{_≡_}
+use mathlib.Core.List.{List, _++_}
+use Prim.Native.Nat.{ℕ, _<_}
+use lib.ListN.{length, drop}
+use Rattle.walks.specs.Label.{Net, after, Best}
+use Rattle.walks.specs.Walk.{Walk, Once}
+use Rattle.search.specs.declared.Found.{Found}
+use Rattle.search.specs.declared.Found.the-variants.{Nowhere, Roads}
+
+-- from s with the label l to t
+pub data Finds (N : Net) (s l t : ℕ) (list : List ℕ) : Found → List ℕ → Type 0 where
+  nowhere : Best N s l t 0 → Finds N s l t list Nowhere list
+  route : (ks : List ℕ) → Walk (N .roads) s ks t → Once (N .roads) s ks → 0 < after N ks l → Best N s l t (after N ks l)
+      → Finds N s l t list (Roads (length ks)) (ks ++ drop (length ks) list)
