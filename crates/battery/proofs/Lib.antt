@@ -2,6 +2,7 @@ pub mod Rule
 pub mod Drive
 pub mod Balance
 pub mod Monotone
+pub mod Easier
 pub mod Join
 pub mod Next
 pub mod Compose

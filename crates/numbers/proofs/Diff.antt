@@ -7,7 +7,7 @@ use native.Mathlib.Omega.{arith}
 use lib.Dec.{T, leb, ltb, leb→le, le→leb}
 use lib.IntN.{ℤ, pos, negsuc, negℤ, subℕ, _+ℤ_, _-ℤ_}
 use lib.Signed.{mag, leZ}
-use borrow.Author.Tests.{ltb-true, ltb-false, le-leb, lt-leb}
+use borrow.Author.Tests.{ltb-true, ltb-false, leb-true, le-leb, lt-leb}
 use Rattle.numbers.specs.Signed.{draw, gain}
 
 abbrev pub IsDiff : ℤ → ℕ → ℕ → Type 0
@@ -87,6 +87,16 @@ diff-leZ {x = pos m} {y = negsuc n} {a} {b} {c} {d} h k = sym (lt-leb (a + d) (c
 diff-leZ {x = negsuc m} {y = pos n} {a} {b} {c} {d} h k = sym (le-leb (a + d) (c + b) (omega arith))
 diff-leZ {x = negsuc m} {y = negsuc n} {a} {b} {c} {d} h k =
     leb-same n m (a + d) (c + b) (λ p. omega arith) (λ p. omega arith)
+
+pub draw-mono : (x y : ℤ) → leZ x y ≡ true → draw x ≤ draw y
+draw-mono (pos m) (pos n) e = leb-true m n e
+draw-mono (pos m) (negsuc n) e = let z : _≡_ {A = ℕ} 0 1 = cc in absurd (omega arith)
+draw-mono (negsuc m) y e = omega arith
+
+pub gain-mono : (x y : ℤ) → leZ x y ≡ true → gain y ≤ gain x
+gain-mono x (pos n) e = omega arith
+gain-mono (pos m) (negsuc n) e = let z : _≡_ {A = ℕ} 0 1 = cc in absurd (omega arith)
+gain-mono (negsuc m) (negsuc n) e = let h = leb-true n m e in omega arith
 
 -- ---- sizes: `mag` is what a signed width bounds
 

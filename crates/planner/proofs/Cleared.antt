@@ -1,5 +1,5 @@
 -- What a question that passes the tests before its route is known to have. Assumes nothing.
-use mathlib.Core.Path.{_≡_, ap, _∙_}
+use mathlib.Core.Path.{_≡_, sym, ap, _∙_, subst}
 use mathlib.Core.Bool.{true}
 use mathlib.Core.List.{List}
 use Prim.Native.Nat.{ℕ, _≤_, _<_, _^_}
@@ -18,17 +18,12 @@ use Rattle.network.specs.Check.{firstOf, recordsFault}
 use Rattle.network.specs.declared.Checked.the-variants.{Passed}
 use Rattle.network.specs.declared.Refusal.the-variants.{Battery, Start, LongRoute}
 use Rattle.routes.specs.Places.{mostEntries}
-use Rattle.planner.specs.Before.{beforeDrive, beforeProfile}
+use Rattle.planner.specs.Before.{Whole, beforeDrive, beforeProfile}
 use Rattle.planner.specs.Order.{isBattery, isStart}
 use Rattle.planner.specs.declared.DriveQuestion.{DriveQuestion}
 use Rattle.planner.specs.declared.ProfileQuestion.{ProfileQuestion}
 
--- a number of a question that is a natural, at most mostBattery
-pub record Whole (z : ℤ) : Type 0 where
-  pub from-0 : leZ (pos 0) z ≡ true
-  pub draw-le : draw z ≤ mostBattery
-
--- the same of its bits, which `whole` is asked for
+-- a natural and its bits, which `whole` is asked for
 pub whole-bits : {z : ℤ} → mag z < 2 ^ 63 → Whole z
     → (leZ (pos 0) (toZ w64 (ofZ w64 z)) ≡ true) × (draw (toZ w64 (ofZ w64 z)) < 2 ^ 32)
 whole-bits {z} h w =
@@ -51,6 +46,12 @@ start-whole (pos n) (pos k) e f =
     (record { from-0 = le-leb 0 k (omega arith); draw-le = omega arith }, g)
 start-whole (pos n) (negsuc k) e f = let z : _≡_ {A = ℕ} 0 1 = cc in absurd (omega arith)
 start-whole (negsuc n) b e f = let z : _≡_ {A = ℕ} 0 1 = cc in absurd (omega arith)
+
+-- both, as they stand in a question
+pub both-whole : (m b : ℤ) → mag m < 2 ^ 63 → mag b < 2 ^ 63 → isBattery m ≡ true → isStart m b ≡ true
+    → Whole (toZ w64 (ofZ w64 m)) × Whole (toZ w64 (ofZ w64 b))
+both-whole m b h k e f =
+    (subst Whole (sym (back64 {z = m} h)) (battery-whole m e), subst Whole (sym (back64 {z = b} k)) (start-whole m b e f .0))
 
 -- 5, 11 and the records
 pub record Cleared (ns rs : List ℕ) (m : ℤ) (entries : ℕ) : Type 0 where

@@ -13,10 +13,10 @@ use Rattle.planner.specs.Claims.{OneCheck, OneDrive, OneProfile}
 use Rattle.planner.specs.Given.{checkNumbers, driveNumbers, profileNumbers}
 use Rattle.planner.specs.Promises.{Checks, Drives, Profiles}
 
-same-refusal : {x : Checked} {r s : Refusal} → x ≡ Refused r → x ≡ Refused s → r ≡ s
+pub same-refusal : {x : Checked} {r s : Refusal} → x ≡ Refused r → x ≡ Refused s → r ≡ s
 same-refusal e f = cc
 
-not-both : {X : Type 0} {x : Checked} {r : Refusal} → x ≡ Passed → x ≡ Refused r → X
+pub not-both : {X : Type 0} {x : Checked} {r : Refusal} → x ≡ Passed → x ≡ Refused r → X
 not-both e f = let z : _≡_ {A = ℕ} 0 1 = cc in absurd (omega arith)
 
 pub one-check : OneCheck

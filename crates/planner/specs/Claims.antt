@@ -1,13 +1,22 @@
 -- What is proved of the promises. The proofs are in proofs/.
 use mathlib.Core.Path.{_≡_}
 use mathlib.Core.Bool.{true}
-use mathlib.Core.List.{List}
-use mathlib.Core.Logic.{_⊎_}
-use Prim.Native.Nat.{ℕ, _+_, _-_, _≤_, max}
+use mathlib.Core.List.{List, _++_}
+use mathlib.Core.Logic.{_⊎_, _≢_}
+use Prim.Native.Nat.{ℕ, _+_, _-_, _≤_, _<_, max}
 use lib.Signed.{leZ}
 use Rattle.numbers.specs.Signed.{draw}
-use Rattle.network.specs.Walks.{roadsOf}
-use Rattle.planner.specs.Promises.{Checks, Drives, Profiles}
+use Rattle.battery.specs.Drive.{fresh, driveAll}
+use Rattle.battery.specs.declared.Drove.the-variants.{On}
+use Rattle.battery.specs.declared.Road.{Road}
+use Rattle.battery.specs.declared.Van.{Van}
+use Rattle.network.specs.Files.{roadCount, roadOf, Passing}
+use Rattle.network.specs.Walks.{Walk, roadsOf}
+use Rattle.network.specs.declared.Checked.the-variants.{Passed}
+use Rattle.planner.specs.Order.{planFault}
+use Rattle.planner.specs.Promises.{Checks, Plans, Drives, Profiles}
+use Rattle.planner.specs.declared.PlanNumbers.{PlanNumbers}
+use Rattle.planner.specs.declared.PlanQuestion.{PlanQuestion}
 use Rattle.planner.specs.declared.CheckNumbers.{CheckNumbers}
 use Rattle.planner.specs.declared.DriveNumbers.{DriveNumbers}
 use Rattle.planner.specs.declared.ProfileNumbers.{ProfileNumbers}
@@ -17,6 +26,20 @@ use Rattle.planner.specs.declared.ProfileQuestion.{ProfileQuestion}
 -- one outcome: any two that a promise allows on the same input are equal
 abbrev pub OneCheck : Type 0
 OneCheck = (ns rs : List ℕ) (a b : CheckNumbers) → Checks ns rs a → Checks ns rs b → a ≡ b
+
+-- best route: two outcomes agree in number, place and arrival. A refusal leaves nothing free; of equally good routes any may
+-- be given, and with the same list all numbers are the same
+pub record Agree (a b : PlanNumbers) (xs ys : List ℕ) : Type 0 where
+  pub number-is : a .number ≡ b .number
+  pub place-is : a .place ≡ b .place
+  pub arrival-is : a .arrival ≡ b .arrival
+  pub refusal : a .number ≢ 0 → (a ≡ b) × (xs ≡ ys)
+  pub chosen : xs ≡ ys → a ≡ b
+
+abbrev pub OnePlan : Type 0
+OnePlan =
+    (ns rs : List ℕ) (q : PlanQuestion) (list : List ℕ) (a b : PlanNumbers) (xs ys : List ℕ)
+    → Plans ns rs q list a xs → Plans ns rs q list b ys → Agree a b xs ys
 
 abbrev pub OneDrive : Type 0
 OneDrive =
@@ -46,3 +69,41 @@ FixedRoute =
     → leZ (q .battery) (q' .battery) ≡ true → leZ (q .start) (q' .start) ≡ true
     → a .number ≡ 0 → (b .number ≡ 0) ⊎ (b .number ≡ 14)
     → NoLess q q' a b
+
+-- the second network is no harder: each road of the first has a road with the same ends and no higher consumption in it
+pub record NoHigher (r r' : Road) : Type 0 where
+  pub same-tail : r .tail ≡ r' .tail
+  pub same-head : r .head ≡ r' .head
+  pub no-higher : leZ (r' .consumption) (r .consumption) ≡ true
+
+abbrev pub NoHarder : List ℕ → List ℕ → Type 0
+NoHarder rs rs' = (k : ℕ) → k < roadCount rs → (j : ℕ) × (j < roadCount rs') × NoHigher (roadOf rs k) (roadOf rs' j)
+
+-- demand 3 of best arrivals. Two queries between the same junctions, neither refused except perhaps for no route (10); the
+-- second has a network no harder, and neither battery nor start is lower: a route in the first means a route in the second,
+-- arriving with no less. No limit from above is claimed here
+abbrev pub BestNoLess : Type 0
+BestNoLess =
+    (ns rs ns' rs' : List ℕ) (q q' : PlanQuestion) (list list' : List ℕ) (a b : PlanNumbers) (xs ys : List ℕ)
+    → Plans ns rs q list a xs → Plans ns' rs' q' list' b ys
+    → q .source ≡ q' .source → q .target ≡ q' .target → NoHarder rs rs' → leZ (q .battery) (q' .battery) ≡ true
+    → leZ (q .start) (q' .start) ≡ true → a .number ≡ 0 → (b .number ≡ 0) ⊎ (b .number ≡ 10)
+    → (b .number ≡ 0) × (a .arrival ≤ b .arrival)
+
+-- source = target: the empty route, arrival = start
+pub record StaysPut (q : PlanQuestion) (list : List ℕ) (a : PlanNumbers) (xs : List ℕ) : Type 0 where
+  pub no-roads : a .roads ≡ 0
+  pub arrival-is : a .arrival ≡ draw (q .start)
+  pub list-is : xs ≡ list
+
+abbrev pub SameJunction : Type 0
+SameJunction =
+    (ns rs : List ℕ) (q : PlanQuestion) (list : List ℕ) (a : PlanNumbers) (xs : List ℕ)
+    → Plans ns rs q list a xs → q .source ≡ q .target → planFault ns rs q list ≡ Passed → StaysPut q list a xs
+
+-- a walk that returns to a junction never arrives with more than the walk without the loop: battery size M, start b
+abbrev pub LoopNoMore : Type 0
+LoopNoMore =
+    (ns rs : List ℕ) (M b : ℕ) (v : ℕ) (to loop on : List ℕ) (w : Van)
+    → Passing ns rs → Walk rs v loop v → driveAll (fresh M b) (roadsOf rs (to ++ (loop ++ on))) ≡ On w
+    → (u : Van) × (driveAll (fresh M b) (roadsOf rs (to ++ on)) ≡ On u) × (w .charge ≤ u .charge)

@@ -9,12 +9,29 @@ use Rattle.routes.specs.declared.Driven.the-variants as driven
 use Rattle.routes.specs.declared.Profiled.{Profiled}
 use Rattle.routes.specs.declared.Profiled.the-variants as profiled
 use Rattle.planner.specs.declared.CheckNumbers.{CheckNumbers}
+use Rattle.planner.specs.declared.Planned.{Planned}
+use Rattle.planner.specs.declared.Planned.the-variants as planned
+use Rattle.planner.specs.declared.PlanNumbers.{PlanNumbers}
 use Rattle.planner.specs.declared.DriveNumbers.{DriveNumbers}
 use Rattle.planner.specs.declared.ProfileNumbers.{ProfileNumbers}
 
 abbrev pub checkNumbers : Checked → CheckNumbers
 checkNumbers checked.Passed = record { number = 0; place = 0 }
 checkNumbers (checked.Refused r) = record { number = numberOf r; place = placeOf r }
+
+abbrev pub planNumbers : Planned → PlanNumbers
+planNumbers (planned.Route n v) =
+    record {
+      number = 0;
+      place = 0;
+      roads = n;
+      arrival = v .charge;
+      drawn = v .drawn;
+      recovered = v .recovered;
+      spilled = v .spilled;
+    }
+planNumbers (planned.Refused r) =
+    record { number = numberOf r; place = placeOf r; roads = 0; arrival = 0; drawn = 0; recovered = 0; spilled = 0 }
 
 abbrev pub driveNumbers : Driven → DriveNumbers
 driveNumbers (driven.Arrived v) =

@@ -3,3 +3,4 @@ pub mod Order
 pub mod Promises
 pub mod Claims
 pub mod Before
+pub mod Planning

@@ -1,8 +1,9 @@
 -- What each entry promises: the numbers that it may give back. A refusal is given exactly where it is the first fault, a
 -- success exactly where there is none.
 use mathlib.Core.Path.{_≡_}
-use mathlib.Core.List.{List}
-use Prim.Native.Nat.{ℕ}
+use mathlib.Core.List.{List, _++_}
+use Prim.Native.Nat.{ℕ, _≤_}
+use lib.ListN.{length, drop}
 use Rattle.numbers.specs.Signed.{draw}
 use Rattle.battery.specs.Drive.{driveAll}
 use Rattle.battery.specs.Profile.{profileOf}
@@ -11,14 +12,18 @@ use Rattle.battery.specs.declared.Passage.the-variants.{Passable}
 use Rattle.battery.specs.declared.Van.{Van}
 use Rattle.battery.specs.declared.Drove.the-variants.{On}
 use Rattle.network.specs.Check.{checkFault}
-use Rattle.network.specs.Walks.{roadsOf}
+use Rattle.network.specs.Walks.{Walk, Once, roadsOf}
 use Rattle.network.specs.declared.Refusal.{Refusal}
+use Rattle.network.specs.declared.Refusal.the-variants.{NoRoute}
 use Rattle.network.specs.declared.Checked.the-variants.{Passed, Refused}
 use Rattle.routes.specs.declared.Driven.the-variants as driven
 use Rattle.routes.specs.declared.Profiled.the-variants as profiled
-use Rattle.planner.specs.Given.{checkNumbers, driveNumbers, profileNumbers}
-use Rattle.planner.specs.Order.{vanOf, driveFault, profileFault}
+use Rattle.planner.specs.Given.{checkNumbers, planNumbers, driveNumbers, profileNumbers}
+use Rattle.planner.specs.Order.{vanOf, planVan, planFault, driveFault, profileFault}
 use Rattle.planner.specs.declared.CheckNumbers.{CheckNumbers}
+use Rattle.planner.specs.declared.Planned.the-variants as planned
+use Rattle.planner.specs.declared.PlanNumbers.{PlanNumbers}
+use Rattle.planner.specs.declared.PlanQuestion.{PlanQuestion}
 use Rattle.planner.specs.declared.DriveNumbers.{DriveNumbers}
 use Rattle.planner.specs.declared.ProfileNumbers.{ProfileNumbers}
 use Rattle.planner.specs.declared.DriveQuestion.{DriveQuestion}
@@ -28,6 +33,28 @@ use Rattle.planner.specs.declared.ProfileQuestion.{ProfileQuestion}
 pub data Checks (ns rs : List ℕ) : CheckNumbers → Type 0 where
   refused : (r : Refusal) → checkFault ns rs ≡ Refused r → Checks ns rs (checkNumbers (Refused r))
   sound : checkFault ns rs ≡ Passed → Checks ns rs (checkNumbers Passed)
+
+-- a feasible walk over the road records from source to target: by the roads ks, with the van v at its end
+pub record Arrives (rs : List ℕ) (q : PlanQuestion) (ks : List ℕ) (v : Van) : Type 0 where
+  pub walk : Walk rs (q .source) ks (q .target)
+  pub drives : driveAll (planVan q) (roadsOf rs ks) ≡ On v
+
+-- no walk of any length arrives with more than the charge a
+abbrev pub Most : List ℕ → PlanQuestion → ℕ → Type 0
+Most rs q a = (ks : List ℕ) (v : Van) → Arrives rs q ks v → v .charge ≤ a
+
+-- no feasible walk from source to target
+abbrev pub NoWalk : List ℕ → PlanQuestion → Type 0
+NoWalk rs q = (ks : List ℕ) (v : Van) → Arrives rs q ks v → ⊥
+
+-- best route: what is given back, and the lent list after it. On success the list's first entries are the route and the
+-- remaining entries stay; a refusal leaves the list as it was
+pub data Plans (ns rs : List ℕ) (q : PlanQuestion) (list : List ℕ) : PlanNumbers → List ℕ → Type 0 where
+  refused : (r : Refusal) → planFault ns rs q list ≡ Refused r → Plans ns rs q list (planNumbers (planned.Refused r)) list
+  none : planFault ns rs q list ≡ Passed → NoWalk rs q → Plans ns rs q list (planNumbers (planned.Refused NoRoute)) list
+  route : (ks : List ℕ) (v : Van) → planFault ns rs q list ≡ Passed
+      → Arrives rs q ks v → Once rs (q .source) ks → Most rs q (v .charge)
+      → Plans ns rs q list (planNumbers (planned.Route (length ks) v)) (ks ++ drop (length ks) list)
 
 -- drive: the arrival and the three totals of the roads driven by the battery rule
 pub data Drives (ns rs : List ℕ) (q : DriveQuestion) (es : List ℕ) : DriveNumbers → Type 0 where

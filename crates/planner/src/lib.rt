@@ -1,16 +1,23 @@
 // The public entries. Each takes any bytes and any numbers, asks nothing of its caller, and ends
 // with its answer or with one numbered refusal.
 ghost use mathlib.Core.Path.{_≡_};
+ghost use Rattle.numbers.specs.Signed.{draw};
+ghost use Rattle.battery.specs.Drive.{fresh};
 ghost use Rattle.network.specs.Check.{firstOf};
-ghost use Rattle.planner.specs.Given.{checkNumbers, driveNumbers, profileNumbers};
+ghost use Rattle.planner.specs.Given.{checkNumbers, planNumbers, driveNumbers, profileNumbers};
 ghost use Rattle.planner.specs.Order.{isBattery, isStart};
-ghost use Rattle.planner.specs.Before.{beforeBattery, beforeRoute, beforeDrive, beforeProfile};
-ghost use Rattle.planner.specs.Promises.{Checks, Drives, Profiles};
+ghost use Rattle.planner.specs.Before.{Whole, beforeBattery, beforeStart, beforeSearch, beforePlan, beforeRoute, beforeDrive, beforeProfile};
+ghost use Rattle.planner.specs.Promises.{Checks, Plans, Drives, Profiles};
+ghost use Rattle.planner.specs.Planning.{PlanAsks, FoundAsks, FoundKeeps};
 use battery::Van;
 use network::Checked;
 use network::Refusal;
 use routes::Driven;
 use routes::Profiled;
+use search::Found;
+use search::Reading;
+use search::Sense;
+use search::Trip;
 
 // What a drive is asked for: battery size and start charge in mWh, and where it sets out.
 pub struct DriveQuestion {
@@ -25,10 +32,34 @@ pub struct ProfileQuestion {
     pub source: u64,
 }
 
+// What a best route is asked for.
+pub struct PlanQuestion {
+    pub battery: i64,
+    pub start: i64,
+    pub source: u64,
+    pub target: u64,
+}
+
+// What a best route comes to: how many roads it has and the van at its end, or the refusal.
+pub enum Planned {
+    Route(usize, Van),
+    Refused(Refusal),
+}
+
 // Document 01's number and values of each answer. A success has number 0 and place 0.
 pub struct CheckNumbers {
     pub number: u64,
     pub place: u64,
+}
+
+pub struct PlanNumbers {
+    pub number: u64,
+    pub place: u64,
+    pub roads: u64,
+    pub arrival: u64,
+    pub drawn: u64,
+    pub recovered: u64,
+    pub spilled: u64,
 }
 
 pub struct DriveNumbers {
@@ -55,6 +86,19 @@ pub fn check(nodes: &[u8], roads: &[u8]) -> Checked
     network::check(nodes, roads)
 }
 
+// Best route: of all walks from source to target, of any length, one that arrives with the most charge. Its roads stand at
+// the front of the list.
+pub fn best_route(nodes: &[u8], roads: &[u8], question: PlanQuestion, list: &mut [u16]) -> Planned
+    ensures { λ r. ⌜ Plans (now (nodes .entry)) (now (roads .entry)) question (now (list .entry)) (planNumbers r) (now (list .exit)) ⌝ }
+{
+    let checked = check_plan(nodes, roads, question, list.len());
+    if let Checked::Refused(r) = checked {
+        return Planned::Refused(r);
+    }
+    let van = van_of(question.battery, question.start);
+    plan(nodes, roads, question, van, list)
+}
+
 // Drive of a given route: arrival and totals, or the first fault.
 pub fn drive(nodes: &[u8], roads: &[u8], question: DriveQuestion, route: &[u16]) -> Driven
     ensures { λ r. ⌜ Drives (now (nodes .entry)) (now (roads .entry)) question (now (route .entry)) (driveNumbers r) ⌝ }
@@ -63,10 +107,7 @@ pub fn drive(nodes: &[u8], roads: &[u8], question: DriveQuestion, route: &[u16])
     if let Checked::Refused(r) = checked {
         return Driven::Refused(r);
     }
-    let van = Van::new(
-        numbers::whole(question.battery),
-        numbers::whole(question.start),
-    );
+    let van = van_of(question.battery, question.start);
     routes::drive_route(roads, route, question.source as usize, van)
 }
 
@@ -93,6 +134,31 @@ pub fn check_numbers(answer: Checked) -> CheckNumbers
         Checked::Refused(r) => CheckNumbers {
             number: network::number(r),
             place: network::place(r),
+        },
+    }
+}
+
+pub fn plan_numbers(answer: Planned) -> PlanNumbers
+    ensures { λ r. ⌜ r ≡ planNumbers answer ⌝ }
+{
+    match answer {
+        Planned::Route(roads, van) => PlanNumbers {
+            number: 0,
+            place: 0,
+            roads: roads as u64,
+            arrival: van.charge as u64,
+            drawn: van.drawn,
+            recovered: van.recovered,
+            spilled: van.spilled,
+        },
+        Planned::Refused(r) => PlanNumbers {
+            number: network::number(r),
+            place: network::place(r),
+            roads: 0,
+            arrival: 0,
+            drawn: 0,
+            recovered: 0,
+            spilled: 0,
         },
     }
 }
@@ -141,16 +207,57 @@ pub fn profile_numbers(answer: Profiled) -> ProfileNumbers
     }
 }
 
+// The search, and the drive of the route that it found: the totals come from the roads driven.
+fn plan(nodes: &[u8], roads: &[u8], question: PlanQuestion, van: Van, list: &mut [u16]) -> Planned
+    requires { ⌜ PlanAsks (now nodes) (now roads) question van (now list) ⌝ }
+    ensures { λ r. ⌜ Plans (now (nodes .entry)) (now (roads .entry)) question (now (list .entry)) (planNumbers r) (now (list .exit)) ⌝ }
+{
+    let reading = Reading {
+        sense: Sense::Forward,
+        battery: van.battery,
+    };
+    let trip = Trip {
+        source: question.source as usize,
+        label: van.charge + 1,
+        target: question.target as usize,
+    };
+    let found = search::find(nodes, roads, reading, trip, list);
+    match found {
+        Found::Nowhere => Planned::Refused(Refusal::NoRoute),
+        Found::Roads(count) => drive_found(roads, &list[..count], trip.source, van),
+    }
+}
+
+// The drive of a route that is known to be drivable, so that no fault is found.
+fn drive_found(roads: &[u8], route: &[u16], source: usize, van: Van) -> Planned
+    requires { ⌜ FoundAsks (now roads) (now route) source van ⌝ }
+    ensures { λ r. ⌜ FoundKeeps (now (roads .entry)) (now (route .entry)) van r ⌝ }
+{
+    let driven = routes::drive_route(roads, route, source, van);
+    match driven {
+        Driven::Arrived(end) => Planned::Route(route.len(), end),
+        Driven::Refused(r) => Planned::Refused(r),
+    }
+}
+
+// The tests of a best route before its search: 1 to 6, the records.
+fn check_plan(nodes: &[u8], roads: &[u8], question: PlanQuestion, room: usize) -> Checked
+    ensures { λ r. ⌜ r ≡ firstOf (beforePlan (now (nodes .entry)) (now (roads .entry)) question room) ⌝ }
+{
+    let opened = check_start(nodes, roads, question.battery, question.start);
+    if let Checked::Refused(r) = opened {
+        return Checked::Refused(r);
+    }
+    check_ends(nodes, roads, question.source, question.target, room)
+}
+
 // The tests of a drive before its route: 1, 2, 3, 4, 5, 11, the records.
 fn check_drive(nodes: &[u8], roads: &[u8], question: DriveQuestion, entries: usize) -> Checked
     ensures { λ r. ⌜ r ≡ firstOf (beforeDrive (now (nodes .entry)) (now (roads .entry)) question entries) ⌝ }
 {
-    let opened = check_battery(nodes, roads, question.battery);
+    let opened = check_start(nodes, roads, question.battery, question.start);
     if let Checked::Refused(r) = opened {
         return Checked::Refused(r);
-    }
-    if !is_start(question.battery, question.start) {
-        return Checked::Refused(Refusal::Start);
     }
     check_source(nodes, roads, question.source, entries)
 }
@@ -164,6 +271,20 @@ fn check_profile(nodes: &[u8], roads: &[u8], question: ProfileQuestion, entries:
         return Checked::Refused(r);
     }
     check_source(nodes, roads, question.source, entries)
+}
+
+// 1, 2, 3, 4.
+fn check_start(nodes: &[u8], roads: &[u8], battery: i64, start: i64) -> Checked
+    ensures { λ r. ⌜ r ≡ firstOf (beforeStart (now (nodes .entry)) (now (roads .entry)) battery start) ⌝ }
+{
+    let opened = check_battery(nodes, roads, battery);
+    if let Checked::Refused(r) = opened {
+        return Checked::Refused(r);
+    }
+    if !is_start(battery, start) {
+        return Checked::Refused(Refusal::Start);
+    }
+    Checked::Passed
 }
 
 // 1, 2, 3.
@@ -191,6 +312,31 @@ fn check_source(nodes: &[u8], roads: &[u8], source: u64, entries: usize) -> Chec
         return Checked::Refused(Refusal::LongRoute);
     }
     network::check_records(nodes, roads)
+}
+
+// 5 (source and target), 6, the records.
+fn check_ends(nodes: &[u8], roads: &[u8], source: u64, target: u64, room: usize) -> Checked
+    ensures { λ r. ⌜ r ≡ firstOf (beforeSearch (now (nodes .entry)) (now (roads .entry)) source target room) ⌝ }
+{
+    let count = nodes.len() / network::JUNCTION_BYTES;
+    if count as u64 <= source {
+        return Checked::Refused(Refusal::NoJunction);
+    }
+    if count as u64 <= target {
+        return Checked::Refused(Refusal::NoJunction);
+    }
+    if room < count - 1 {
+        return Checked::Refused(Refusal::ShortList);
+    }
+    network::check_records(nodes, roads)
+}
+
+// The van that sets out, once 3 and 4 have passed.
+fn van_of(battery: i64, start: i64) -> Van
+    requires { ⌜ Whole battery × Whole start ⌝ }
+    ensures { λ r. ⌜ r ≡ fresh (draw battery) (draw start) ⌝ }
+{
+    Van::new(numbers::whole(battery), numbers::whole(start))
 }
 
 fn is_battery(battery: i64) -> bool

@@ -55,7 +55,7 @@ module _ (rd : Reading) (ns rs : List ℕ) (trip : Trip) (list : List ℕ) (a : 
       }
 
   module _ (labels ways : List ℕ) (e : Explored (net rd rs) (junctions ns) trip (entry labels) (entry ways)) where
-    pub finds-nowhere : entry labels (trip .target) ≡ 0 → Finds (net rd rs) (trip .source) (trip .label) (trip .target) list Nowhere list
+    pub finds-nowhere : entry labels (trip .target) ≡ 0 → Finds (net rd rs) (junctions ns) (trip .source) (trip .label) (trip .target) list Nowhere list
     finds-nowhere z =
         nowhere
         (subst (λ (x : ℕ). Best (net rd rs) (trip .source) (trip .label) (trip .target) x) z (e .best (trip .target) (inl refl)))
@@ -77,13 +77,13 @@ module _ (rd : Reading) (ns rs : List ℕ) (trip : Trip) (list : List ℕ) (a : 
           let p : count ≡ length (found .by) = c (found .by) trail in
           record { trailed = trailed; count-is = p; fits = omega (arith, found .few, a .room) }
 
-      finds : Finds (net rd rs) (trip .source) (trip .label) (trip .target) list (Roads (length (found .by))) (found .by ++ drop (length (found .by)) list)
+      finds : Finds (net rd rs) (junctions ns) (trip .source) (trip .label) (trip .target) list (Roads (length (found .by))) (found .by ++ drop (length (found .by)) list)
       finds =
-          route (found .by) (found .walk) (found .once) (omega (arith, found .brings))
+          route (found .by) (found .few) (found .walk) (found .once) (omega (arith, found .brings))
           (subst (λ (x : ℕ). Best (net rd rs) (trip .source) (trip .label) (trip .target) x) (sym (found .brings))
           (e .best (trip .target) (inl refl)))
 
       pub finds-route : (count : ℕ) (list' : List ℕ) → Counted (net rd rs .roads) ways (trip .source) (trip .target) count
           → Written (net rd rs .roads) ways (trip .source) (trip .target) list list'
-          → Finds (net rd rs) (trip .source) (trip .label) (trip .target) list (Roads count) list'
+          → Finds (net rd rs) (junctions ns) (trip .source) (trip .label) (trip .target) list (Roads count) list'
       finds-route count list' c w = rw (c (found .by) trail, w (found .by) trail) finds

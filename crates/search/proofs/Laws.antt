@@ -15,9 +15,9 @@ use Rattle.numbers.specs.Signed.{draw, gain}
 use Rattle.battery.proofs.Rule.{left-is, drivable-is}
 use Rattle.battery.specs.Rule.{drivable, chargeAfter}
 use Rattle.battery.specs.declared.Road.{Road}
-use Rattle.network.proofs.Closed.{passes-draws}
+use Rattle.network.proofs.Closed.{passes-draws, checked-passing}
 use Rattle.network.proofs.Records.{Sound, all-sound}
-use Rattle.network.specs.Files.{junctionBytes, junctions, roadCount, roadOf, potential, passes}
+use Rattle.network.specs.Files.{junctionBytes, junctions, roadCount, roadOf, potential, passes, Passing}
 use Rattle.walks.specs.Label.{Laws}
 use Rattle.search.specs.Reading.{entered, left, labelIf, stepForward, stepOf, mostPotential, psiForward, psiOf, psi, net}
 use Rattle.search.specs.Steps.{Readable}
@@ -115,13 +115,17 @@ step-none Forward M r = refl
 step-mono : (s : Sense) (M : ℕ) (r : Road) (l l' : ℕ) → l ≤ l' → stepOf s M r l ≤ stepOf s M r l'
 step-mono Forward M r l l' h = forward-mono M r l l' h
 
-step-gain : (s : Sense) (M : ℕ) (ns : List ℕ) (r : Road) (l : ℕ) → Sound ns r → 0 < stepOf s M r l
+-- a road that passes
+abbrev Passes : List ℕ → Road → Type 0
+Passes ns r = passes (r .consumption) (potential ns (r .tail)) (potential ns (r .head)) ≡ true
+
+step-gain : (s : Sense) (M : ℕ) (ns : List ℕ) (r : Road) (l : ℕ) → Passes ns r → 0 < stepOf s M r l
     → stepOf s M r l + psiOf s (potential ns (left s r)) ≤ l + psiOf s (potential ns (entered s r))
-step-gain Forward M ns r l sound h =
+step-gain Forward M ns r l e h =
     let p = potential ns (r .tail) in
     let q = potential ns (r .head) in
     forward-gain M r l (psiForward p) (psiForward q)
-    (forward-falls (r .consumption) p q (sound .passing) (potential-le ns (r .tail)) (potential-le ns (r .head))) h
+    (forward-falls (r .consumption) p q e (potential-le ns (r .tail)) (potential-le ns (r .head))) h
 
 pub step-le : (s : Sense) (M : ℕ) (r : Road) (l : ℕ) → stepOf s M r l ≤ M + 1
 step-le Forward M r l = forward-le M r l
@@ -143,17 +147,21 @@ pub count-is : (rd : Reading) (rs : List ℕ) → net rd rs .roads .count ≡ ro
 unfolding net
 count-is rd rs = refl
 
+-- the three laws, where all roads pass
+pub laws-of : (rd : Reading) (ns rs : List ℕ) → Passing ns rs → Laws (net rd rs) (psi rd ns)
+unfolding net
+laws-of rd ns rs a =
+    record {
+      none = λ k. step-none (rd .sense) (rd .battery) (roadOf rs k);
+      mono = λ k. step-mono (rd .sense) (rd .battery) (roadOf rs k);
+      no-gain = λ k l h. step-gain (rd .sense) (rd .battery) ns (roadOf rs k) l (a .pass k h);
+    }
+
 -- ---- the roads of checked files
 
 module _ (rd : Reading) (ns rs : List ℕ) (a : Readable rd ns rs) where
   pub laws : Laws (net rd rs) (psi rd ns)
-  unfolding net
-  laws =
-      record {
-        none = λ k. step-none (rd .sense) (rd .battery) (roadOf rs k);
-        mono = λ k. step-mono (rd .sense) (rd .battery) (roadOf rs k);
-        no-gain = λ k l h. step-gain (rd .sense) (rd .battery) ns (roadOf rs k) l (all-sound ns rs (a .checked) k h);
-      }
+  laws = laws-of rd ns rs (checked-passing ns rs (a .checked))
 
   pub heads-in : (k : ℕ) → k < roadCount rs → net rd rs .roads .head k < junctions ns
   unfolding net

@@ -1,4 +1,5 @@
 pub mod Laws
+pub mod Forward
 mod Counting
 mod Settling
 mod Relaxing

@@ -7,33 +7,11 @@ use Prim.Native.Nat.{ℕ, zero, suc, _+_, _≤_, _<_}
 use native.Mathlib.Decide.{ℕ-discrete}
 use native.Mathlib.Omega.{arith}
 use lib.ListN.{length}
+use Rattle.walks.proofs.Stops.{Rising, rising-none, rising-more, rising-once}
 use Rattle.walks.specs.Label.{Net, after}
-use Rattle.walks.specs.Walk.{Roads, Walk, stay, go, stopAt, Once}
+use Rattle.walks.specs.Walk.{Walk, stay, go}
 use Rattle.search.specs.State.{Settled, State}
 use Rattle.search.specs.Trails.{Trail, here, back, Route}
-
--- the ranks rise along es from v
-Rising : Roads → (ℕ → ℕ) → ℕ → List ℕ → Type 0
-Rising R rank v [] = Unit {0}
-Rising R rank v (k ∷ es) = (rank v < rank (R .head k)) × Rising R rank (R .head k) es
-
-module _ (R : Roads) (rank : ℕ → ℕ) where
-  rising-from : (v : ℕ) (es : List ℕ) (j : ℕ) → Rising R rank v es → rank v ≤ rank (stopAt R v es j)
-  unfolding Rising
-  rising-from v [] j r = omega arith
-  rising-from v (k ∷ es) zero r = omega arith
-  rising-from v (k ∷ es) (suc j) r = omega (arith, rising-from (R .head k) es j (r .1), r .0)
-
-  rising-lt : (v : ℕ) (es : List ℕ) (i j : ℕ) → Rising R rank v es → i < j → j ≤ length es
-      → rank (stopAt R v es i) < rank (stopAt R v es j)
-  unfolding Rising
-  rising-lt v [] i j r h f = absurd (omega arith)
-  rising-lt v (k ∷ es) i zero r h f = absurd (omega arith)
-  rising-lt v (k ∷ es) zero (suc j) r h f = omega (arith, rising-from (R .head k) es j (r .1), r .0)
-  rising-lt v (k ∷ es) (suc i) (suc j) r h f = rising-lt (R .head k) es i j (r .1) (omega arith) (omega arith)
-
-  rising-once : (v : ℕ) (es : List ℕ) → Rising R rank v es → Once R v es
-  rising-once v es r = record { apart = λ i j h f e. omega (arith, rising-lt v es i j r h f, ap rank e) }
 
 -- the end of the route, from v to t
 record End (N : Net) (rank L : ℕ → ℕ) (v t : ℕ) (es : List ℕ) : Type 0 where
@@ -46,16 +24,14 @@ module _ (N : Net) (psi : ℕ → ℕ) (n s l turns : ℕ) (L W K : ℕ → ℕ)
   -- one road further back
   end-back : (v : ℕ) (es : List ℕ) → Settled L K v → v ≢ s → End N (i .rank) L v t es
       → End N (i .rank) L (N .roads .tail (W v)) t (W v ∷ es)
-  unfolding Rising
   end-back v es c e d =
       let a = i .via v (c .labelled) e in
       record {
         walk = go (W v) (a .road) refl (subst (λ (u : ℕ). Walk (N .roads) u es t) (sym (a .here)) (d .walk));
         brings = ap (after N es) (a .exact) ∙ d .brings;
-        rising = (
-          omega (arith, a .earlier c, ap (i .rank) (a .here)),
-          subst (λ (u : ℕ). Rising (N .roads) (i .rank) u es) (sym (a .here)) (d .rising),
-        );
+        rising =
+            rising-more (N .roads) (i .rank) (N .roads .tail (W v)) (W v) es (omega (arith, a .earlier c, ap (i .rank) (a .here)))
+            (subst (λ (u : ℕ). Rising (N .roads) (i .rank) u es) (sym (a .here)) (d .rising));
         fits = omega (arith, a .earlier c, d .fits);
       }
 
@@ -91,8 +67,7 @@ module _ (N : Net) (psi : ℕ → ℕ) (n s l turns : ℕ) (L W K : ℕ → ℕ)
   trace (suc m) v es h c d = traces m v es h c d (ℕ-discrete v s) (λ w fs. trace m w fs)
 
   end-none : End N (i .rank) L t t []
-  unfolding Rising
-  end-none = record { walk = stay; brings = refl; rising = tt; fits = omega arith }
+  end-none = record { walk = stay; brings = refl; rising = rising-none (N .roads) (i .rank) t; fits = omega arith }
 
   pub traced : Settled L K t → Route N W n s l t (L t)
   traced c =

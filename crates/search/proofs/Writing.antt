@@ -4,7 +4,7 @@ use mathlib.Core.List.{List, [], _∷_, _++_}
 use mathlib.Core.Logic.{_≢_}
 use Prim.Native.Nat.{ℕ, zero, suc, _+_, _-_, _≤_, _<_}
 use native.Mathlib.Omega.{arith}
-use lib.ListN.{length, set, take, drop, length-set}
+use lib.ListN.{length, set, take, drop, length-set, take-append-drop}
 use Rattle.frontier.specs.Frontier.{entry}
 use Rattle.walks.specs.Walk.{Roads}
 use Rattle.search.specs.Trails.{Trail, here, back, TrailOf, Counted, WriteAsks, Written}
@@ -62,19 +62,13 @@ pub record Writing (R : Roads) (ways : List ℕ) (s t v i : ℕ) (ks list list' 
   pub low : i ≤ length ks
   pub list-is : list' ≡ take i list ++ (walked .behind ++ drop (length ks) list)
 
-take-all : (xs : List ℕ) (i : ℕ) → take i xs ++ drop i xs ≡ xs
-take-all [] zero = refl
-take-all [] (suc i) = refl
-take-all (x ∷ xs) zero = refl
-take-all (x ∷ xs) (suc i) = ap (λ (r : List ℕ). x ∷ r) (take-all xs i)
-
 pub writing-none : {R : Roads} {ways : List ℕ} {s t : ℕ} {ks : List ℕ} (list : List ℕ) → TrailOf R ways s t ks
     → Writing R ways s t t (length ks) ks list list
 writing-none {ks = ks} list t =
     record {
       walked = record { behind = []; count-is = omega arith; trail = t };
       low = omega arith;
-      list-is = sym (take-all list (length ks));
+      list-is = sym (take-append-drop (length ks) list);
     }
 
 -- a store at the end of the first part

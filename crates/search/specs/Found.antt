@@ -9,8 +9,8 @@ use Rattle.walks.specs.Walk.{Walk, Once}
 use Rattle.search.specs.declared.Found.{Found}
 use Rattle.search.specs.declared.Found.the-variants.{Nowhere, Roads}
 
--- from s with the label l to t
-pub data Finds (N : Net) (s l t : ℕ) (list : List ℕ) : Found → List ℕ → Type 0 where
-  nowhere : Best N s l t 0 → Finds N s l t list Nowhere list
-  route : (ks : List ℕ) → Walk (N .roads) s ks t → Once (N .roads) s ks → 0 < after N ks l → Best N s l t (after N ks l)
-      → Finds N s l t list (Roads (length ks)) (ks ++ drop (length ks) list)
+-- from s with the label l to t, over n junctions: the route has fewer roads than there are junctions
+pub data Finds (N : Net) (n s l t : ℕ) (list : List ℕ) : Found → List ℕ → Type 0 where
+  nowhere : Best N s l t 0 → Finds N n s l t list Nowhere list
+  route : (ks : List ℕ) → length ks < n → Walk (N .roads) s ks t → Once (N .roads) s ks → 0 < after N ks l
+      → Best N s l t (after N ks l) → Finds N n s l t list (Roads (length ks)) (ks ++ drop (length ks) list)

@@ -120,7 +120,7 @@ fn below_most(potential: i32) -> u32
 // The best route from the trip's source to its target, written at the front of the list.
 pub fn find(nodes: &[u8], roads: &[u8], reading: Reading, trip: Trip, list: &mut [u16]) -> Found
     requires { ⌜ FindAsks reading (now nodes) (now roads) trip (now list) ⌝ }
-    ensures { λ r. ⌜ Finds (net reading (now (roads .entry))) (trip .source) (trip .label) (trip .target) (now (list .entry)) r (now (list .exit)) ⌝ }
+    ensures { λ r. ⌜ Finds (net reading (now (roads .entry))) (junctions (now (nodes .entry))) (trip .source) (trip .label) (trip .target) (now (list .entry)) r (now (list .exit)) ⌝ }
 {
     let mut chains = [0u16; CHAINS];
     let mut labels = [0u32; network::MOST_JUNCTIONS];

@@ -11,7 +11,7 @@ use Rattle.network.specs.declared.Checked.the-variants as checked
 use Rattle.routes.specs.Steps.{DriveAsks, DriveKeeps}
 use Rattle.planner.specs.Before.{beforeDrive}
 use Rattle.planner.specs.Order.{vanOf}
-use Rattle.planner.proofs.Cleared.{whole-bits, battery-whole, start-whole, drive-cleared}
+use Rattle.planner.proofs.Cleared.{both-whole, drive-cleared}
 use Rattle.planner.proofs.Entries.{drive-refused, drive-asks, drive-kept}
 use Rattle.planner.proofs.drive.Statement.{statement}
 use Rattle.planner.proofs.drive.Tie as tie
@@ -27,39 +27,31 @@ returns c =
     let a = c .before .before .before .before .before .before .before .args in
     drive-refused (a .nodes .now) (a .roads .now) (a .question) (a .route .now) (sym (c .before .before .before .check-drive .ensures) ∙ c .before .checked .given .1)
 
-whole-requires : tie.Need-whole-requires
-whole-requires c κs =
-    let t = c .before in
+van-of-requires : tie.Need-van-of-requires
+van-of-requires c κs =
+    let t = c .before .before in
     let a = t .before .before .before .before .before .before .args in
     let d = drive-cleared (a .nodes .now) (a .roads .now) (a .question) (length (a .route .now)) (passed t) in
-    whole-bits {z = a .question .battery} (c .struct-told .given .0 .1) (battery-whole (a .question .battery) (d .0 .battery-ok))
-
-whole-requires-2 : tie.Need-whole-requires-2
-whole-requires-2 c κs =
-    let t = c .before .before .before in
-    let a = t .before .before .before .before .before .before .args in
-    let d = drive-cleared (a .nodes .now) (a .roads .now) (a .question) (length (a .route .now)) (passed t) in
-    whole-bits {z = a .question .start} (c .struct-told2 .given .1 .0 .1) (start-whole (a .question .battery) (a .question .start) (d .0 .battery-ok) (d .1) .0)
+    both-whole (a .question .battery) (a .question .start) (c .before .struct-told .given .0 .1) (c .struct-told2 .given .1 .0 .1)
+    (d .0 .battery-ok) (d .1)
 
 -- the van that sets out
-van-is : (c : tie.After-new) →
-    c .new .result ≡ vanOf (c .before .before .before .before .before .before .before .before .before .before .before .args .question)
+van-is : (c : tie.After-van-of) → c .van-of .result ≡ vanOf (c .before .before .before .before .before .before .before .before .before .args .question)
 van-is c =
-    let w = c .before .before .before in
-    let a = w .before .before .before .before .before .before .before .before .args in
-    let p = w .whole .ensures ∙ ap draw (back64 {z = a .question .battery} (w .before .struct-told .given .0 .1)) in
-    let q = c .before .whole2 .ensures ∙ ap draw (back64 {z = a .question .start} (c .before .before .struct-told2 .given .1 .0 .1)) in
-    c .new .ensures ∙ (λ i. fresh (p i) (q i))
+    let a = c .before .before .before .before .before .before .before .before .before .args in
+    let p = ap draw (back64 {z = a .question .battery} (c .before .before .struct-told .given .0 .1)) in
+    let q = ap draw (back64 {z = a .question .start} (c .before .struct-told2 .given .1 .0 .1)) in
+    c .van-of .ensures ∙ (λ i. fresh (p i) (q i))
 
 drive-route-requires : tie.Need-drive-route-requires
 drive-route-requires c κs =
-    let t = c .before .before .before .before .before in
+    let t = c .before .before .before in
     let a = t .before .before .before .before .before .before .args in
     subst (DriveAsks (a .roads .now) (a .route .now)) (sym (van-is c)) (drive-asks (a .nodes .now) (a .roads .now) (a .question) (a .route .now) (passed t))
 
 returns-2 : tie.Need-returns-2
 returns-2 c =
-    let t = c .before .before .before .before .before .before in
+    let t = c .before .before .before .before in
     let a = t .before .before .before .before .before .before .args in
     let k = subst (λ (v : Van). DriveKeeps (a .roads .now) (a .route .now) (a .question .source) v (c .drive-route .result)) (van-is (c .before)) (c .drive-route .ensures) in
     drive-kept (a .nodes .now) (a .roads .now) (a .question) (a .route .now) (passed t) (c .drive-route .result) k
@@ -72,8 +64,6 @@ drive-spec =
     (λ c. search needs)
     returns
     (λ c. search needs)
-    whole-requires
-    whole-requires-2
-    (λ c κs. search needs)
+    van-of-requires
     drive-route-requires
     returns-2)

@@ -1,0 +1,4 @@
+pub mod Walks
+pub mod Outcomes
+pub mod Rows
+pub mod Excluded

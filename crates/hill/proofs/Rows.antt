@@ -1,0 +1,132 @@
+-- The rows of the table, and the one unit that brings 301. Each row names its walks; the checker works out the rule.
+-- Assumes nothing.
+use mathlib.Core.Path.{_≡_, refl, subst}
+use mathlib.Core.Bool.{true}
+use mathlib.Core.List.{List, [], _∷_}
+use mathlib.Core.Logic.{inl, inr}
+use Prim.Native.Nat.{ℕ}
+use native.Mathlib.Omega.{arith}
+use lib.IntN.{ℤ, pos}
+use Rattle.battery.specs.Drive.{driven, drive, driveAll}
+use Rattle.battery.specs.Profile.{oneRoad, followedBy, profileOf}
+use Rattle.battery.specs.declared.Profile.{Profile}
+use Rattle.battery.specs.declared.Passage.the-variants.{Passable}
+use Rattle.battery.specs.declared.Van.{Van}
+use Rattle.battery.specs.declared.Drove.the-variants.{On, TooLow}
+use Rattle.network.specs.Check.{firstFrom, recordFault}
+use Rattle.network.specs.Walks.{Walk, roadsOf}
+use Rattle.network.specs.declared.Checked.the-variants.{Passed}
+use Rattle.routes.specs.Places.{placeFault}
+use Rattle.routes.specs.declared.Driven.the-variants as route
+use Rattle.walks.specs.Walk.{stay, go}
+use Rattle.planner.specs.Given.{driveNumbers}
+use Rattle.planner.specs.Order.{vanOf, planVan, driveFault, profileFault}
+use Rattle.planner.specs.Promises.{Drives, Profiles}
+use Rattle.planner.specs.declared.DriveQuestion.{DriveQuestion}
+use Rattle.hill.specs.Hill.{nodes, roads, asks}
+use Rattle.hill.specs.Table.{Row, DriveRow, Says, TableHolds, OneMoreBrings301}
+use Rattle.hill.proofs.Outcomes.{clear, Short, Else, BestBy, best-row, best-arrival, none-only}
+use Rattle.hill.proofs.Walks.{Way, stays, by-2, by-0-1, by-2-3, by-0-1-3}
+
+-- ---- the walks between the junctions of the rows
+
+-- the walks by `one` and by `other` are all from s to t
+abbrev pub Two : ℕ → ℕ → List ℕ → List ℕ → Type 1
+Two s t one other = (P : List ℕ → Type 0) → P one → P other → (ks : List ℕ) → Way s ks t → P ks
+
+pub to-3 : Two 0 3 (0 ∷ 1 ∷ 3 ∷ []) (2 ∷ 3 ∷ [])
+to-3 P hill flat ks by-0-1-3 = hill
+to-3 P hill flat ks by-2-3 = flat
+
+to-2 : Two 0 2 (0 ∷ 1 ∷ []) (2 ∷ [])
+to-2 P hill flat ks by-0-1 = hill
+to-2 P hill flat ks by-2 = flat
+
+to-2-flat : Two 0 2 (2 ∷ []) (0 ∷ 1 ∷ [])
+to-2-flat P flat hill ks w = to-2 P hill flat ks w
+
+pub hill-3 : Walk roads 0 (0 ∷ 1 ∷ 3 ∷ []) 3
+hill-3 = go 0 (omega arith) refl (go 1 (omega arith) refl (go 3 (omega arith) refl stay))
+
+hill-2 : Walk roads 0 (0 ∷ 1 ∷ []) 2
+hill-2 = go 0 (omega arith) refl (go 1 (omega arith) refl stay)
+
+flat-2 : Walk roads 0 (2 ∷ []) 2
+flat-2 = go 2 (omega arith) refl stay
+
+-- ---- rows of best route
+
+module _ {m b s t : ℕ} {one other : List ℕ} (two : Two s t one other) where
+  -- the better of two walks
+  pub better : {v : Van} → Walk roads s one t → clear (asks m b s t) ≡ true
+      → driveAll (planVan (asks m b s t)) (roadsOf roads one) ≡ On v
+      → Short (v .charge) (driveAll (planVan (asks m b s t)) (roadsOf roads other)) → BestBy (asks m b s t) one v
+  better {v} w c d h =
+      record {
+        cleared = c;
+        arrives = record { walk = w; drives = d };
+        others = two (Else (asks m b s t) one (v .charge)) (inl refl) (inr h);
+      }
+
+  neither : clear (asks m b s t) ≡ true → driveAll (planVan (asks m b s t)) (roadsOf roads one) ≡ TooLow
+      → driveAll (planVan (asks m b s t)) (roadsOf roads other) ≡ TooLow → Says (Row.no-route m b s t)
+  neither c d e = none-only (asks m b s t) c (two (λ ks. driveAll (planVan (asks m b s t)) (roadsOf roads ks) ≡ TooLow) d e)
+
+-- from 1 to 1
+only-stays : (ks : List ℕ) → Way 1 ks 1 → Else (asks 1000 0 1 1) [] 0 ks
+only-stays ks stays = inl refl
+
+-- ---- the other rows
+
+drive-row : {q : DriveQuestion} {ks : List ℕ} {v : Van} {a x : ℕ} → driveFault nodes roads q ks ≡ Passed
+    → driveAll (vanOf q) (roadsOf roads ks) ≡ On v → v .charge ≡ a → v .spilled ≡ x → DriveRow q ks a x
+drive-row {v} e d a x =
+    record {
+      numbers = driveNumbers (route.Arrived v);
+      success = refl;
+      arrival-is = a;
+      spilled-is = x;
+      allowed = Drives.arrives v e d;
+    }
+
+profile-row : {m s : ℕ} {ks : List ℕ} {p : Profile} {n t : ℕ} {z : ℤ}
+    → profileFault nodes roads (record { battery = pos m; source = s }) ks ≡ Passed
+    → profileOf m (roadsOf roads ks) ≡ Passable p → p .need ≡ n → p .sum ≡ z → p .top ≡ t
+    → Says (Row.profile m s ks n z t)
+profile-row {m} {s} {ks} {p} e f n z t =
+    subst (Profiles nodes roads (record { battery = pos m; source = s }) ks)
+    (λ i. record { number = 0; place = 0; need = n i; sum = z i; top = t i }) (Profiles.known p e f)
+
+-- ---- the table
+
+infixr 4 _and_
+_and_ : {A B : Type 0} → A → B → A × B
+_and_ a b = (a, b)
+
+-- row by row in the table's order. What is worked out: the tests, the drive by the walk named, and that the other walk falls
+-- short
+pub table-holds : TableHolds
+unfolding driveAll drive driven driveFault profileFault firstFrom recordFault placeFault profileOf followedBy oneRoad
+table-holds =
+    best-row (better to-3 hill-3 refl refl tt) refl
+    and best-row (better to-3 hill-3 refl refl tt) refl
+    and neither to-3 refl refl refl
+    and best-row (better to-2 hill-2 refl refl (omega arith)) refl
+    and best-row (better to-2-flat flat-2 refl refl tt) refl
+    and best-row (better to-2-flat flat-2 refl refl tt) refl
+    and neither to-2 refl refl refl
+    and best-row (record { cleared = refl; arrives = record { walk = stay; drives = refl }; others = only-stays }) refl
+    and best-row (better to-3 hill-3 refl refl tt) refl
+    and neither to-3 refl refl refl
+    and drive-row refl refl refl refl
+    and profile-row refl refl refl refl refl
+    and tt
+
+-- ---- one unit more
+
+pub one-more-brings-301 : OneMoreBrings301
+unfolding driveAll drive driven
+one-more-brings-301 list a b xs ys h p q =
+    let x = best-arrival (better to-2-flat flat-2 refl refl tt) list h p in
+    let y = best-arrival (better to-2 hill-2 refl refl (omega arith)) list h q in
+    omega arith

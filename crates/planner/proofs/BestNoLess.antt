@@ -1,0 +1,91 @@
+-- Demand 3 of best arrivals: a network that is no harder, a battery and a start that are no lower. Assumes nothing.
+use mathlib.Core.Path.{_≡_, refl, sym, _∙_, subst}
+use mathlib.Core.Bool.{true, _&&_}
+use mathlib.Core.List.{List, [], _∷_}
+use mathlib.Core.Logic.{_⊎_, inl, inr}
+use Prim.Native.Nat.{ℕ, _≤_, _<_}
+use native.Mathlib.Nat.{le-trans}
+use native.Mathlib.Omega.{arith}
+use lib.Signed.{leZ}
+use Rattle.numbers.proofs.Diff.{draw-mono}
+use Rattle.battery.proofs.Easier.{Easier, none, more, Above, easier-arrives}
+use Rattle.battery.specs.declared.Road.{Road}
+use Rattle.battery.specs.declared.Van.{Van}
+use Rattle.network.proofs.Faults.{number-pos}
+use Rattle.network.specs.Files.{junctionFile, roadFile, isJunction}
+use Rattle.network.specs.Refusals.{numberOf}
+use Rattle.network.specs.Walks.{Walk, roadsOf}
+use Rattle.network.specs.declared.Refusal.{Refusal}
+use Rattle.network.specs.declared.Refusal.the-variants.{JunctionFile, RoadFile, Battery, Start, NoJunction, ShortList}
+use Rattle.network.specs.declared.Checked.the-variants.{Refused}
+use Rattle.walks.specs.Walk.{stay, go}
+use Rattle.planner.specs.Claims.{NoHarder, BestNoLess}
+use Rattle.planner.specs.Order.{isBattery, isStart, planVan, hasRoom, planFault}
+use Rattle.planner.specs.Promises.{Arrives, Plans}
+use Rattle.planner.specs.declared.PlanNumbers.{PlanNumbers}
+use Rattle.planner.specs.declared.PlanQuestion.{PlanQuestion}
+use Rattle.planner.proofs.Early.{Early, passed, refused, unless-early, first-early, records-early}
+
+-- ---- the tests give no 10
+
+plan-early : (ns rs : List ℕ) (q : PlanQuestion) (list : List ℕ) → Early 10 (planFault ns rs q list)
+unfolding planFault
+plan-early ns rs q list =
+    let a = unless-early 10 (junctionFile ns) JunctionFile (omega arith) in
+    let b = unless-early 10 (roadFile rs) RoadFile (omega arith) in
+    let c = unless-early 10 (isBattery (q .battery)) Battery (omega arith) in
+    let d = unless-early 10 (isStart (q .battery) (q .start)) Start (omega arith) in
+    let e = unless-early 10 (isJunction ns (q .source) && isJunction ns (q .target)) NoJunction (omega arith) in
+    let f = unless-early 10 (hasRoom ns list) ShortList (omega arith) in
+    let g = first-early 10 (records-early 10 (omega arith) ns rs) passed in
+    first-early 10 a (first-early 10 b (first-early 10 c (first-early 10 d (first-early 10 e (first-early 10 f g)))))
+
+refused-early : (ns rs : List ℕ) (q : PlanQuestion) (list : List ℕ) {r : Refusal} → planFault ns rs q list ≡ Refused r
+    → numberOf r < 10
+refused-early ns rs q list {r} e = below (subst (Early 10) e (plan-early ns rs q list))
+  where
+    below : Early 10 (Refused r) → numberOf r < 10
+    below (refused h) = h
+
+-- ---- two networks
+
+-- a walk over the second network's roads from v to w that takes, place by place, no more than the roads `rs`
+record Beside (rs' : List ℕ) (v w : ℕ) (rs : List Road) : Type 0 where
+  pub by : List ℕ
+  pub walk : Walk rs' v by w
+  pub easier : Easier rs (roadsOf rs' by)
+
+beside : (rs rs' : List ℕ) {v w : ℕ} {ks : List ℕ} → NoHarder rs rs' → Walk rs v ks w → Beside rs' v w (roadsOf rs ks)
+beside rs rs' n stay = record { by = []; walk = stay; easier = none }
+beside rs rs' {w} n (go k h e walk) =
+    let b = beside rs rs' n walk in
+    let j = n k h in
+    let c = j .2 in
+    record {
+      by = j .0 ∷ b .by;
+      walk = go (j .0) (j .1) (sym (c .same-tail) ∙ e) (subst (λ u. Walk rs' u (b .by) w) (c .same-head) (b .walk));
+      easier = more (c .no-higher) (b .easier);
+    }
+
+-- where a walk arrives with c or more, best route has a route, which arrives with c or more
+second : {ns rs list ys ks : List ℕ} {q : PlanQuestion} {b : PlanNumbers} {w : Van} {c : ℕ} → Plans ns rs q list b ys
+    → (b .number ≡ 0) ⊎ (b .number ≡ 10) → Arrives rs q ks w → c ≤ w .charge → (b .number ≡ 0) × (c ≤ b .arrival)
+second (Plans.refused r e) (inl n) a h = absurd (omega (arith, number-pos r))
+second {ns} {rs} {list} {q} (Plans.refused r e) (inr n) a h = absurd (omega (arith, refused-early ns rs q list e))
+second {ks} {w} (Plans.none e no-walk) n a h = absurd (no-walk ks w a)
+second {ks} {w} (Plans.route js u e g o most) n a h = (refl, le-trans h (most ks w a))
+
+sets-out : (q q' : PlanQuestion) → leZ (q .battery) (q' .battery) ≡ true → leZ (q .start) (q' .start) ≡ true
+    → Above (planVan q) (planVan q')
+sets-out q q' m b =
+    record { battery-le = draw-mono (q .battery) (q' .battery) m; charge-le = draw-mono (q .start) (q' .start) b }
+
+pub best-no-less : BestNoLess
+best-no-less ns rs ns' rs' q q' list list' a b xs ys (Plans.refused r e) p s t harder m st z n =
+    absurd (omega (arith, number-pos r))
+best-no-less ns rs ns' rs' q q' list list' a b xs ys (Plans.none e no-walk) p s t harder m st z n = absurd (omega arith)
+best-no-less ns rs ns' rs' q q' list list' a b xs ys (Plans.route ks v e g o most) p s t harder m st z n =
+    let w = subst (λ x. Walk rs x ks (q' .target)) s (subst (λ x. Walk rs (q .source) ks x) t (g .walk)) in
+    let r = beside rs rs' harder w in
+    let d = easier-arrives (r .easier) (sets-out q q' m st) (g .drives) in
+    second p n (record { walk = r .walk; drives = d .drives }) (d .above .charge-le)

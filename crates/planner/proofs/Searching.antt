@@ -1,0 +1,217 @@
+-- From the search's promise, which speaks of labels, to that of best route, which speaks of roads and charges. Assumes nothing.
+use mathlib.Core.Path.{_≡_, refl, sym, ap, _∙_, subst}
+use mathlib.Core.Bool.{true, _&&_}
+use mathlib.Core.List.{List, _++_}
+use Prim.Native.Nat.{ℕ, suc, _+_, _-_, _%_, _≤_, _<_}
+use native.Mathlib.Omega.{arith}
+use borrow.Author.Tests.{leb-true, ltb-true}
+use lib.Dec.{ltb, leb, eqb}
+use lib.ListN.{length, take, drop, length-append}
+use lib.Seq.{take-append-seam}
+use Rattle.numbers.specs.Signed.{draw}
+use Rattle.battery.specs.Drive.{fresh, driveAll}
+use Rattle.battery.specs.Rule.{mostBattery}
+use Rattle.battery.specs.declared.Drove.{Drove}
+use Rattle.battery.specs.declared.Drove.the-variants.{On, TooLow}
+use Rattle.battery.specs.declared.Van.{Van}
+use Rattle.network.proofs.Faults.{each-passed, unless-passed, both-true}
+use Rattle.network.proofs.Records.{all-ranged}
+use Rattle.network.specs.Check.{firstOf, recordsFault}
+use Rattle.network.specs.Files.{junctions, roadCount, junctionFile, roadFile, isJunction, junctionBytes, roadBytes, mostJunctions, mostRoads}
+use Rattle.network.specs.Walks.{Walk, Once, roadsOf}
+use Rattle.network.specs.declared.Checked.{Checked}
+use Rattle.network.specs.declared.Checked.the-variants as checked
+use Rattle.network.specs.declared.Refusal.the-variants.{JunctionFile, RoadFile, Battery, Start, NoJunction, ShortList, NoRoute}
+use Rattle.routes.proofs.Exactly.{driven-exactly}
+use Rattle.routes.specs.Places.{driveFaults}
+use Rattle.routes.specs.Steps.{DriveAsks}
+use Rattle.walks.specs.Label.{after, Best}
+use Rattle.search.proofs.Forward.{forward, label, label-after}
+use Rattle.search.specs.Found.{Finds, nowhere, route}
+use Rattle.search.specs.Reading.{net}
+use Rattle.search.specs.Steps.{FindAsks}
+use Rattle.search.specs.declared.Found.the-variants.{Nowhere, Roads}
+use Rattle.search.specs.declared.Trip.{Trip}
+use Rattle.planner.specs.Before.{beforePlan}
+use Rattle.planner.specs.Given.{planNumbers}
+use Rattle.planner.specs.Order.{isBattery, isStart, hasRoom, planVan, planFault}
+use Rattle.planner.specs.Planning.{FoundAsks, FoundKeeps}
+use Rattle.planner.specs.Promises.{Arrives, Most, NoWalk, Plans}
+use Rattle.planner.specs.declared.Planned.{Planned}
+use Rattle.planner.specs.declared.Planned.the-variants as planned
+use Rattle.planner.specs.declared.PlanQuestion.{PlanQuestion}
+use Rattle.planner.proofs.Cleared.{battery-whole, start-whole}
+
+-- ---- 1 to 9 have passed
+
+pub record PlanCleared (ns rs : List ℕ) (q : PlanQuestion) (list : List ℕ) : Type 0 where
+  pub few : junctions ns ≤ mostJunctions
+  pub few-roads : roadCount rs ≤ mostRoads
+  pub battery-ok : isBattery (q .battery) ≡ true
+  pub start-ok : isStart (q .battery) (q .start) ≡ true
+  pub source-in : q .source < junctions ns
+  pub target-in : q .target < junctions ns
+  pub room : junctions ns ≤ length list + 1
+  pub records-ok : recordsFault ns rs ≡ checked.Passed
+
+pub plan-cleared : (ns rs : List ℕ) (q : PlanQuestion) (list : List ℕ) → planFault ns rs q list ≡ checked.Passed
+    → PlanCleared ns rs q list
+unfolding planFault
+plan-cleared ns rs q list e =
+    let a = each-passed (beforePlan ns rs q (length list)) e in
+    let b = a .1 .1 in
+    let c = b .1 .1 in
+    let n = both-true (ltb 0 (length ns)) _ (unless-passed (junctionFile ns) JunctionFile (a .0)) .1 in
+    let j =
+    both-true (isJunction ns (q .source)) (isJunction ns (q .target))
+    (unless-passed (isJunction ns (q .source) && isJunction ns (q .target)) NoJunction (c .0))
+    in
+    let h = leb-true (junctions ns - 1) (length list) (unless-passed (hasRoom ns list) ShortList (c .1 .0)) in
+    record {
+      few = leb-true _ _ (both-true (eqb (length ns % junctionBytes) 0) (leb (junctions ns) mostJunctions) n .1);
+      few-roads =
+          leb-true _ _
+          (both-true (eqb (length rs % roadBytes) 0) (leb (roadCount rs) mostRoads) (unless-passed (roadFile rs) RoadFile (a .1 .0)) .1);
+      battery-ok = unless-passed (isBattery (q .battery)) Battery (b .0);
+      start-ok = unless-passed (isStart (q .battery) (q .start)) Start (b .1 .0);
+      source-in = ltb-true _ _ (j .0);
+      target-in = ltb-true _ _ (j .1);
+      room = omega arith;
+      records-ok = c .1 .1 .0;
+    }
+
+-- the tests as the code makes them
+pub plan-fault-is : (ns rs : List ℕ) (q : PlanQuestion) (list : List ℕ) → planFault ns rs q list ≡ firstOf (beforePlan ns rs q (length list))
+unfolding planFault
+plan-fault-is ns rs q list = refl
+
+-- the trip that is searched: the label is the start charge plus one
+abbrev pub tripOf : PlanQuestion → Trip
+tripOf q = record { source = q .source; label = draw (q .start) + 1; target = q .target }
+
+pub find-asks : (ns rs : List ℕ) (q : PlanQuestion) (list : List ℕ) → PlanCleared ns rs q list
+    → FindAsks (forward (draw (q .battery))) ns rs (tripOf q) list
+find-asks ns rs q list c =
+    let s = start-whole (q .battery) (q .start) (c .battery-ok) (c .start-ok) in
+    record {
+      readable =
+          record {
+            battery-le = battery-whole (q .battery) (c .battery-ok) .draw-le;
+            few = c .few;
+            few-roads = c .few-roads;
+            checked = c .records-ok;
+          };
+      source-in = c .source-in;
+      target-in = c .target-in;
+      some = omega arith;
+      label-le = omega (arith, s .1);
+      room = c .room;
+    }
+
+-- ---- labels and charges
+
+arrived : (d : Drove) → 0 < label d → (v : Van) × (d ≡ On v)
+arrived (On v) h = (v, refl)
+arrived TooLow h = absurd (omega arith)
+
+module _ (rs : List ℕ) (q : PlanQuestion) where
+  -- the label that a walk brings
+  brings : List ℕ → ℕ
+  brings ks = after (net (forward (draw (q .battery))) rs) ks (draw (q .start) + 1)
+
+  brings-is : (ks : List ℕ) → brings ks ≡ label (driveAll (planVan q) (roadsOf rs ks))
+  unfolding brings
+  brings-is ks =
+      let e : draw (q .start) + 1 ≡ suc (draw (q .start)) = omega arith in
+      ap (after (net (forward (draw (q .battery))) rs) ks) e ∙ label-after (draw (q .battery)) (draw (q .start)) rs ks
+
+  brings-on : (ks : List ℕ) (v : Van) → Arrives rs q ks v → brings ks ≡ suc (v .charge)
+  brings-on ks v a = brings-is ks ∙ ap label (a .drives)
+
+  -- no walk brings more than the best label
+  bound : (x : ℕ) → Best (net (forward (draw (q .battery))) rs) (q .source) (draw (q .start) + 1) (q .target) x
+      → (ks : List ℕ) (v : Van) → Arrives rs q ks v → suc (v .charge) ≤ x
+  unfolding net brings
+  bound x b ks v a = omega (arith, brings-on ks v a, b .most ks (a .walk))
+
+-- ---- what the search found
+
+module _ (ns rs : List ℕ) (q : PlanQuestion) (list : List ℕ) (passed : planFault ns rs q list ≡ checked.Passed) where
+  -- no route
+  pub plans-none : (list' : List ℕ)
+      → Finds (net (forward (draw (q .battery))) rs) (junctions ns) (q .source) (draw (q .start) + 1) (q .target) list Nowhere list'
+      → Plans ns rs q list (planNumbers (planned.Refused NoRoute)) list'
+  plans-none list' (nowhere best) = Plans.none passed (λ ks v a. omega (arith, bound rs q 0 best ks v a))
+
+-- a route, in roads and charges
+pub record BestWalk (ns rs : List ℕ) (q : PlanQuestion) (list : List ℕ) (count : ℕ) (list' : List ℕ) : Type 0 where
+  pub by : List ℕ
+  pub van : Van
+  pub few : length by < junctions ns
+  pub arrives : Arrives rs q by van
+  pub once : Once rs (q .source) by
+  pub most : Most rs q (van .charge)
+  pub count-is : count ≡ length by
+  pub list-is : list' ≡ by ++ drop (length by) list
+
+pub best-walk : (ns rs : List ℕ) (q : PlanQuestion) (list : List ℕ) (count : ℕ) (list' : List ℕ)
+    → Finds (net (forward (draw (q .battery))) rs) (junctions ns) (q .source) (draw (q .start) + 1) (q .target) list (Roads count) list'
+    → BestWalk ns rs q list count list'
+unfolding net brings
+best-walk ns rs q list count list' (route ks few walk once some best) =
+    let e = brings-is rs q ks in
+    let d = arrived (driveAll (planVan q) (roadsOf rs ks)) (omega (arith, some, e)) in
+    let a : Arrives rs q ks (d .0) = record { walk = walk; drives = d .1 } in
+    record {
+      by = ks;
+      van = d .0;
+      few = few;
+      arrives = a;
+      once = once;
+      most = λ js u g. omega (arith, bound rs q _ best js u g, brings-on rs q ks (d .0) a);
+      count-is = refl;
+      list-is = refl;
+    }
+
+module _ (ns rs : List ℕ) (q : PlanQuestion) (list : List ℕ) (passed : planFault ns rs q list ≡ checked.Passed)
+    (count : ℕ) (list' : List ℕ) (w : BestWalk ns rs q list count list') where
+  pub count-le : count ≤ length list'
+  count-le = omega (arith, w .count-is, ap length (w .list-is), length-append (w .by) (drop (length (w .by)) list))
+
+  -- the first entries are the route
+  front : take count list' ≡ w .by
+  front = (λ i. take (w .count-is i) (w .list-is i)) ∙ take-append-seam (w .by) (drop (length (w .by)) list)
+
+  asks : DriveAsks rs (w .by) (planVan q)
+  asks =
+      let c = plan-cleared ns rs q list passed in
+      let s = start-whole (q .battery) (q .start) (c .battery-ok) (c .start-ok) in
+      record {
+        roads-ranged = record { ranged = all-ranged ns rs (c .records-ok) };
+        entries-le = omega (arith, w .few, c .few);
+        bounded =
+            record {
+              battery-le = battery-whole (q .battery) (c .battery-ok) .draw-le;
+              charge-le = s .1;
+              drawn-le = omega arith;
+              recovered-le = omega arith;
+              spilled-le = omega arith;
+            };
+      }
+
+  pub found-asks : FoundAsks rs (take count list') (q .source) (planVan q)
+  found-asks =
+      rw front
+      (record {
+        asks = asks;
+        faultless =
+            driven-exactly (draw (q .battery)) (draw (q .start)) rs (q .source) (w .by) .only
+            (record { target = q .target; walk = w .arrives .walk }) (record { van = w .van; drives = w .arrives .drives });
+      })
+
+  pub plans-route : (r : Planned) → FoundKeeps rs (take count list') (planVan q) r → Plans ns rs q list (planNumbers r) list'
+  plans-route r k =
+      let d : driveAll (planVan q) (roadsOf rs (w .by)) ≡ On (k .end) = rw front at (k .drives) in
+      let v : w .van ≡ k .end = cc (w .arrives .drives) in
+      let p : r ≡ planned.Route (length (w .by)) (w .van) = k .is ∙ (λ i. planned.Route (length (front i)) (sym v i)) in
+      rw (p, w .list-is) (Plans.route (w .by) (w .van) passed (w .arrives) (w .once) (w .most))

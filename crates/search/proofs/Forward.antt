@@ -1,0 +1,62 @@
+-- What forward labels mean: a label after a walk is the charge that the drive arrives with, plus one. Assumes nothing.
+use mathlib.Core.Path.{_≡_, refl, sym, ap, _∙_}
+use mathlib.Core.Bool.{Bool, true, false}
+use mathlib.Core.List.{List, [], _∷_}
+use Prim.Native.Nat.{ℕ, suc}
+use Rattle.battery.proofs.Drive.{Driving, on, low, driving}
+use Rattle.battery.specs.Drive.{fresh, driven, pickDrove, drive, andThen, driveAll}
+use Rattle.battery.specs.Rule.{drivable, chargeAfter}
+use Rattle.battery.specs.declared.Drove.{Drove}
+use Rattle.battery.specs.declared.Drove.the-variants.{On, TooLow}
+use Rattle.battery.specs.declared.Road.{Road}
+use Rattle.battery.specs.declared.Van.{Van}
+use Rattle.network.specs.Walks.{roadsIn, roadsOf}
+use Rattle.network.specs.Files.{roadOf}
+use Rattle.walks.specs.Label.{after}
+use Rattle.search.specs.Reading.{labelIf, stepForward, net}
+use Rattle.search.specs.declared.Reading.{Reading}
+use Rattle.search.specs.declared.Sense.the-variants.{Forward}
+
+abbrev pub forward : ℕ → Reading
+forward M = record { sense = Forward; battery = M }
+
+-- the roads read forward are those of the file
+pub roads-forward : (M : ℕ) (rs : List ℕ) → net (forward M) rs .roads ≡ roadsIn rs
+unfolding net
+roads-forward M rs = refl
+
+abbrev pub label : Drove → ℕ
+label (On v) = suc (v .charge)
+label TooLow = 0
+
+-- one road, by a van with any totals
+label-drive : (v : Van) (r : Road) → label (drive v r) ≡ stepForward (v .battery) r (suc (v .charge))
+unfolding drive driven
+label-drive v r = go (drivable (v .charge) (r .consumption))
+  where
+    go : (t : Bool)
+        → label (pickDrove t (On (driven v r)) TooLow) ≡ labelIf t (chargeAfter (v .battery) (v .charge) (r .consumption))
+    go true = refl
+    go false = refl
+
+after-none : (M : ℕ) (rs ks : List ℕ) → after (net (forward M) rs) ks 0 ≡ 0
+unfolding net
+after-none M rs [] = refl
+after-none M rs (k ∷ ks) = after-none M rs ks
+
+after-van : (M : ℕ) (rs ks : List ℕ) (v : Van) → v .battery ≡ M
+    → after (net (forward M) rs) ks (suc (v .charge)) ≡ label (driveAll v (roadsOf rs ks))
+unfolding net driveAll
+after-van M rs [] v e = refl
+after-van M rs (k ∷ ks) v e =
+    ap (after (net (forward M) rs) ks) (ap (λ (m : ℕ). stepForward m (roadOf rs k) (suc (v .charge))) (sym e) ∙ sym (label-drive v (roadOf rs k)))
+    ∙ go (drive v (roadOf rs k)) (driving v (roadOf rs k)) (λ w f. after-van M rs ks w f)
+  where
+    go : (d : Drove) → Driving v (roadOf rs k) d
+        → ((w : Van) → w .battery ≡ M → after (net (forward M) rs) ks (suc (w .charge)) ≡ label (driveAll w (roadsOf rs ks)))
+        → after (net (forward M) rs) ks (label d) ≡ label (andThen d (λ w. driveAll w (roadsOf rs ks)))
+    go (On w) (on g) ih = ih w (g .battery-is ∙ e)
+    go TooLow (low h) ih = after-none M rs ks
+
+pub label-after : (M b : ℕ) (rs ks : List ℕ) → after (net (forward M) rs) ks (suc b) ≡ label (driveAll (fresh M b) (roadsOf rs ks))
+label-after M b rs ks = after-van M rs ks (fresh M b) refl
