@@ -1,8 +1,9 @@
-// The rows of document 01 that are run and compared, each refusal of the three entries with its
+// The rows of document 01 that are run and compared, each refusal of the four entries with its
 // place and zeros, and the order of two faults present together. A line is the row's name and the
 // numbers given back.
 mod checks;
 mod drives;
+mod plans;
 mod profiles;
 mod shown;
 
@@ -25,4 +26,10 @@ fn main() {
     profiles::refusals();
     profiles::places();
     profiles::orders();
+    plans::routes();
+    plans::ends();
+    plans::numbers();
+    plans::files();
+    plans::orders();
+    plans::loops();
 }

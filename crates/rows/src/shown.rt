@@ -2,6 +2,7 @@
 // record by record, least byte first.
 use libc::STDOUT_FILENO;
 use planner::DriveQuestion;
+use planner::PlanQuestion;
 use planner::ProfileQuestion;
 
 // What is asked about a given route.
@@ -39,6 +40,43 @@ pub fn route_row(name: &[u8], nodes: &[u8], roads: &[u8], asked: Asked, route: &
         Asked::Profile(question) => profile_row(nodes, roads, question, route),
     }
     text(b"\n");
+}
+
+pub fn plan_of(battery: i64, start: i64, source: u64, target: u64) -> PlanQuestion {
+    PlanQuestion {
+        battery,
+        start,
+        source,
+        target,
+    }
+}
+
+// A best route: number, place, roads, arrival, drawn, recovered, spilled, then the lent list.
+pub fn plan_row(name: &[u8], nodes: &[u8], roads: &[u8], question: PlanQuestion, list: &mut [u16]) {
+    let given = planner::plan_numbers(planner::best_route(nodes, roads, question, list));
+    text(name);
+    first(given.number);
+    next(given.place);
+    next(given.roads);
+    next(given.arrival);
+    next(given.drawn);
+    next(given.recovered);
+    next(given.spilled);
+    text(b", list");
+    entries(list);
+    text(b"\n");
+}
+
+// A best route on H.
+pub fn hill_plan(name: &[u8], question: PlanQuestion, list: &mut [u16]) {
+    plan_row(
+        name,
+        b"\x38\xff\xff\xff\x0c\xfe\xff\xff\x00\x00\x00\x00\x00\x00\x00\x00",
+        b"\x00\x00\x01\x00\x2c\x01\x00\x00\x01\x00\x02\x00\x0c\xfe\xff\xff\
+          \x00\x00\x02\x00\x64\x00\x00\x00\x02\x00\x03\x00\x84\x03\x00\x00",
+        question,
+        list,
+    );
 }
 
 // Hill network H of document 01: potentials -200, -500, 0, 0; roads 0 to 1, 300; 1 to 2, -500;
@@ -101,6 +139,18 @@ fn profile_row(nodes: &[u8], roads: &[u8], question: ProfileQuestion, route: &[u
     next(given.need);
     signed(given.sum);
     next(given.top);
+}
+
+fn entries(list: &[u16]) {
+    let mut i = 0;
+    while i < list.len() {
+        entry(list[i]);
+        i += 1;
+    }
+}
+
+fn entry(road: u16) {
+    next(road as u64);
 }
 
 fn text(t: &[u8]) {
