@@ -142,14 +142,14 @@ pub fn plan_numbers(answer: Planned) -> PlanNumbers
     ensures { λ r. ⌜ r ≡ planNumbers answer ⌝ }
 {
     match answer {
-        Planned::Route(roads, van) => PlanNumbers {
+        Planned::Route(roads, end) => PlanNumbers {
             number: 0,
             place: 0,
             roads: roads as u64,
-            arrival: van.charge as u64,
-            drawn: van.drawn,
-            recovered: van.recovered,
-            spilled: van.spilled,
+            arrival: end.charge as u64,
+            drawn: end.drawn,
+            recovered: end.recovered,
+            spilled: end.spilled,
         },
         Planned::Refused(r) => PlanNumbers {
             number: network::number(r),
