@@ -5,7 +5,7 @@ use Prim.Native.Nat.{ℕ, _+_, _*_, _/_, _%_, _<_, max}
 use native.Mathlib.Decide.{ℕ-discrete, decLt}
 use native.Mathlib.Omega.{arith}
 use lib.ListN.{length, set, length-set}
-use lib.Seq.{getD-set-same, getD-set-other, set-set, set-getD}
+use lib.Seq.{getD-set-same, set-set, set-getD}
 use Rattle.frontier.specs.Frontier.{places, keysFrom, entry, keyAt, Put, Frontier, Raises, Removes, Now}
 use Rattle.frontier.specs.Groups.{Run, Regrouped, Lifted}
 use Rattle.frontier.proofs.Stores.{put-of}

@@ -1,5 +1,6 @@
-// The queue of a search: places by their keys, the greatest first. One list holds a tree: first the greatest of each group of
-// eight of the level below, three levels of these, then the keys. The greatest of all is carried by the caller.
+// The queue of a search: places by their keys, the greatest first. One list holds a tree: three
+// levels of the greatest of each group of eight below, then the keys. The caller carries the
+// greatest of all. A raise costs four stores, a removal a look at four groups.
 ghost use mathlib.Core.Path.{_≡_};
 ghost use Prim.Native.Nat.{_+_, _*_, _/_, _≤_, _<_, max};
 ghost use lib.ListN.{length};
@@ -16,7 +17,8 @@ const ONES: usize = 72;
 
 pub const KEYS: usize = 584;
 
-// Sets the key of v to the larger of its key and this one, where top is the greatest key; the greatest key then.
+// Sets the key of v to the larger of its key and this one, where top is the greatest key; the
+// greatest key then.
 pub fn raise(queue: &mut [u64], top: u64, v: usize, key: u64) -> u64
     requires { ⌜ Raises (now queue) top v key ⌝ }
     ensures { λ r. ⌜ Now (now (queue .entry)) v (max (keyAt (now (queue .entry)) v) key) (now (queue .exit)) r ⌝ }

@@ -12,7 +12,6 @@ use Rattle.planner.specs.declared.PlanNumbers.{PlanNumbers}
 use Rattle.planner.specs.declared.PlanQuestion.{PlanQuestion}
 use Rattle.planner.specs.declared.DriveNumbers.{DriveNumbers}
 use Rattle.planner.specs.declared.DriveQuestion.{DriveQuestion}
-use Rattle.planner.specs.declared.ProfileQuestion.{ProfileQuestion}
 use Rattle.hill.specs.Hill.{nodes, roads, asks}
 
 -- what is asked and what is given

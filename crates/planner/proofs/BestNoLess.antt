@@ -1,9 +1,9 @@
 -- Demand 3 of best arrivals: a network that is no harder, a battery and a start that are no lower. Assumes nothing.
 use mathlib.Core.Path.{_≡_, refl, sym, _∙_, subst}
-use mathlib.Core.Bool.{true, _&&_}
+use mathlib.Core.Bool.{true}
 use mathlib.Core.List.{List, [], _∷_}
 use mathlib.Core.Logic.{_⊎_, inl, inr}
-use Prim.Native.Nat.{ℕ, _≤_, _<_}
+use Prim.Native.Nat.{ℕ, _≤_}
 use native.Mathlib.Nat.{le-trans}
 use native.Mathlib.Omega.{arith}
 use lib.Signed.{leZ}
@@ -12,40 +12,14 @@ use Rattle.battery.proofs.Easier.{Easier, none, more, Above, easier-arrives}
 use Rattle.battery.specs.declared.Road.{Road}
 use Rattle.battery.specs.declared.Van.{Van}
 use Rattle.network.proofs.Faults.{number-pos}
-use Rattle.network.specs.Files.{junctionFile, roadFile, isJunction}
-use Rattle.network.specs.Refusals.{numberOf}
 use Rattle.network.specs.Walks.{Walk, roadsOf}
-use Rattle.network.specs.declared.Refusal.{Refusal}
-use Rattle.network.specs.declared.Refusal.the-variants.{JunctionFile, RoadFile, Battery, Start, NoJunction, ShortList}
-use Rattle.network.specs.declared.Checked.the-variants.{Refused}
 use Rattle.walks.specs.Walk.{stay, go}
 use Rattle.planner.specs.Claims.{NoHarder, BestNoLess}
-use Rattle.planner.specs.Order.{isBattery, isStart, planVan, hasRoom, planFault}
+use Rattle.planner.specs.Order.{planVan}
 use Rattle.planner.specs.Promises.{Arrives, Plans}
 use Rattle.planner.specs.declared.PlanNumbers.{PlanNumbers}
 use Rattle.planner.specs.declared.PlanQuestion.{PlanQuestion}
-use Rattle.planner.proofs.Early.{Early, passed, refused, unless-early, first-early, records-early}
-
--- ---- the tests give no 10
-
-plan-early : (ns rs : List ℕ) (q : PlanQuestion) (list : List ℕ) → Early 10 (planFault ns rs q list)
-unfolding planFault
-plan-early ns rs q list =
-    let a = unless-early 10 (junctionFile ns) JunctionFile (omega arith) in
-    let b = unless-early 10 (roadFile rs) RoadFile (omega arith) in
-    let c = unless-early 10 (isBattery (q .battery)) Battery (omega arith) in
-    let d = unless-early 10 (isStart (q .battery) (q .start)) Start (omega arith) in
-    let e = unless-early 10 (isJunction ns (q .source) && isJunction ns (q .target)) NoJunction (omega arith) in
-    let f = unless-early 10 (hasRoom ns list) ShortList (omega arith) in
-    let g = first-early 10 (records-early 10 (omega arith) ns rs) passed in
-    first-early 10 a (first-early 10 b (first-early 10 c (first-early 10 d (first-early 10 e (first-early 10 f g)))))
-
-refused-early : (ns rs : List ℕ) (q : PlanQuestion) (list : List ℕ) {r : Refusal} → planFault ns rs q list ≡ Refused r
-    → numberOf r < 10
-refused-early ns rs q list {r} e = below (subst (Early 10) e (plan-early ns rs q list))
-  where
-    below : Early 10 (Refused r) → numberOf r < 10
-    below (refused h) = h
+use Rattle.planner.proofs.Early.{refused-early}
 
 -- ---- two networks
 

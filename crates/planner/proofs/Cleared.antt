@@ -1,12 +1,13 @@
 -- What a question that passes the tests before its route is known to have. Assumes nothing.
-use mathlib.Core.Path.{_≡_, sym, ap, _∙_, subst}
-use mathlib.Core.Bool.{true}
+use mathlib.Core.Path.{_≡_, refl, sym, ap, _∙_, subst}
+use mathlib.Core.Bool.{true, _&&_}
 use mathlib.Core.List.{List}
-use Prim.Native.Nat.{ℕ, _≤_, _<_, _^_}
+use Prim.Native.Nat.{ℕ, _+_, _-_, _%_, _≤_, _<_, _^_}
 use native.Mathlib.Omega.{arith}
-use borrow.Author.Tests.{leb-true, le-leb}
-use lib.Dec.{leb}
+use borrow.Author.Tests.{leb-true, le-leb, ltb-true}
+use lib.Dec.{ltb, leb, eqb}
 use lib.IntN.{ℤ, pos, negsuc}
+use lib.ListN.{length}
 use lib.Signed.{leZ, mag}
 use mir.Syntax.{w64}
 use mir.Val.{toZ, ofZ}
@@ -15,11 +16,13 @@ use Rattle.numbers.specs.Signed.{draw}
 use Rattle.battery.specs.Rule.{mostBattery}
 use Rattle.network.proofs.Faults.{each-passed, unless-passed, both-true}
 use Rattle.network.specs.Check.{firstOf, recordsFault}
+use Rattle.network.specs.Files.{junctionBytes, roadBytes, junctions, roadCount, mostJunctions, mostRoads, junctionFile, roadFile, isJunction}
 use Rattle.network.specs.declared.Checked.the-variants.{Passed}
-use Rattle.network.specs.declared.Refusal.the-variants.{Battery, Start, LongRoute}
+use Rattle.network.specs.declared.Refusal.the-variants.{JunctionFile, RoadFile, Battery, Start, NoJunction, ShortList, LongRoute}
 use Rattle.routes.specs.Places.{mostEntries}
-use Rattle.planner.specs.Before.{Whole, beforeDrive, beforeProfile}
-use Rattle.planner.specs.Order.{isBattery, isStart}
+use Rattle.planner.specs.Before.{Whole, beforePlan, beforeDrive, beforeProfile}
+use Rattle.planner.specs.Order.{isBattery, isStart, hasRoom, planFault}
+use Rattle.planner.specs.declared.PlanQuestion.{PlanQuestion}
 use Rattle.planner.specs.declared.DriveQuestion.{DriveQuestion}
 use Rattle.planner.specs.declared.ProfileQuestion.{ProfileQuestion}
 
@@ -84,3 +87,46 @@ profile-cleared ns rs q entries e =
       entries-le = leb-true _ _ (unless-passed (leb entries mostEntries) LongRoute (c .0));
       records-ok = c .1 .0;
     }
+
+-- ---- best route: 1 to 9 have passed
+
+pub record PlanCleared (ns rs : List ℕ) (q : PlanQuestion) (list : List ℕ) : Type 0 where
+  pub few : junctions ns ≤ mostJunctions
+  pub few-roads : roadCount rs ≤ mostRoads
+  pub battery-ok : isBattery (q .battery) ≡ true
+  pub start-ok : isStart (q .battery) (q .start) ≡ true
+  pub source-in : q .source < junctions ns
+  pub target-in : q .target < junctions ns
+  pub room : junctions ns ≤ length list + 1
+  pub records-ok : recordsFault ns rs ≡ Passed
+
+pub plan-cleared : (ns rs : List ℕ) (q : PlanQuestion) (list : List ℕ) → planFault ns rs q list ≡ Passed
+    → PlanCleared ns rs q list
+unfolding planFault
+plan-cleared ns rs q list e =
+    let a = each-passed (beforePlan ns rs q (length list)) e in
+    let b = a .1 .1 in
+    let c = b .1 .1 in
+    let n = both-true (ltb 0 (length ns)) _ (unless-passed (junctionFile ns) JunctionFile (a .0)) .1 in
+    let j =
+    both-true (isJunction ns (q .source)) (isJunction ns (q .target))
+    (unless-passed (isJunction ns (q .source) && isJunction ns (q .target)) NoJunction (c .0))
+    in
+    let h = leb-true (junctions ns - 1) (length list) (unless-passed (hasRoom ns list) ShortList (c .1 .0)) in
+    record {
+      few = leb-true _ _ (both-true (eqb (length ns % junctionBytes) 0) (leb (junctions ns) mostJunctions) n .1);
+      few-roads =
+          leb-true _ _
+          (both-true (eqb (length rs % roadBytes) 0) (leb (roadCount rs) mostRoads) (unless-passed (roadFile rs) RoadFile (a .1 .0)) .1);
+      battery-ok = unless-passed (isBattery (q .battery)) Battery (b .0);
+      start-ok = unless-passed (isStart (q .battery) (q .start)) Start (b .1 .0);
+      source-in = ltb-true _ _ (j .0);
+      target-in = ltb-true _ _ (j .1);
+      room = omega arith;
+      records-ok = c .1 .1 .0;
+    }
+
+-- the tests as the code makes them
+pub plan-fault-is : (ns rs : List ℕ) (q : PlanQuestion) (list : List ℕ) → planFault ns rs q list ≡ firstOf (beforePlan ns rs q (length list))
+unfolding planFault
+plan-fault-is ns rs q list = refl

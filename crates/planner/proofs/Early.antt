@@ -1,16 +1,23 @@
 -- Faults with a number below a bound: where every test has only such faults, so has the first fault of all. Assumes nothing.
+use mathlib.Core.Path.{_≡_, sym, _∙_, subst}
 use mathlib.Core.Bool.{Bool, true, false, _&&_}
 use mathlib.Core.List.{List}
-use Prim.Native.Nat.{ℕ, zero, suc, _+_, _≤_, _<_}
+use Prim.Native.Nat.{ℕ, zero, suc, _+_, _-_, _≤_, _<_}
 use native.Mathlib.Omega.{arith}
+use lib.Dec.{leb}
+use lib.ListN.{length}
 use Rattle.battery.specs.declared.Road.{Road}
-use Rattle.network.specs.Check.{unless, first, firstFrom, recordFault, recordsFault}
-use Rattle.network.specs.Files.{roadCount, roadOf, potential, isJunction, inRange, passes}
+use Rattle.network.specs.Check.{unless, first, firstOf, firstFrom, recordFault, recordsFault}
+use Rattle.network.specs.Files.{junctions, roadCount, roadOf, potential, junctionFile, roadFile, isJunction, inRange, passes}
 use Rattle.network.specs.Refusals.{numberOf}
 use Rattle.network.specs.declared.Refusal.{Refusal}
-use Rattle.network.specs.declared.Refusal.the-variants.{Ends, Consumption, Potential}
+use Rattle.network.specs.declared.Refusal.the-variants.{JunctionFile, RoadFile, Battery, Start, NoJunction, ShortList, Ends, Consumption, Potential}
 use Rattle.network.specs.declared.Checked.{Checked}
 use Rattle.network.specs.declared.Checked.the-variants.{Passed, Refused}
+use Rattle.planner.specs.Before.{beforePlan}
+use Rattle.planner.specs.Order.{isBattery, isStart, planFault}
+use Rattle.planner.specs.declared.PlanQuestion.{PlanQuestion}
+use Rattle.planner.proofs.Cleared.{plan-fault-is}
 
 -- passed, or refused with a number below n
 pub data Early (n : ℕ) : Checked → Type 0 where
@@ -43,3 +50,24 @@ module _ (n : ℕ) where
   -- 7, 8, 9
   pub records-early : 10 ≤ n → (ns rs : List ℕ) → Early n (recordsFault ns rs)
   records-early h ns rs = from-early _ (λ k. record-early h ns k (roadOf rs k)) (roadCount rs) 0
+
+-- ---- the tests of best route give no 10
+
+plan-early : (ns rs : List ℕ) (q : PlanQuestion) (room : ℕ) → Early 10 (firstOf (beforePlan ns rs q room))
+plan-early ns rs q room =
+    let a = unless-early 10 (junctionFile ns) JunctionFile (omega arith) in
+    let b = unless-early 10 (roadFile rs) RoadFile (omega arith) in
+    let c = unless-early 10 (isBattery (q .battery)) Battery (omega arith) in
+    let d = unless-early 10 (isStart (q .battery) (q .start)) Start (omega arith) in
+    let e = unless-early 10 (isJunction ns (q .source) && isJunction ns (q .target)) NoJunction (omega arith) in
+    let f = unless-early 10 (leb (junctions ns - 1) room) ShortList (omega arith) in
+    let g = first-early 10 (records-early 10 (omega arith) ns rs) passed in
+    first-early 10 a (first-early 10 b (first-early 10 c (first-early 10 d (first-early 10 e (first-early 10 f g)))))
+
+pub refused-early : (ns rs : List ℕ) (q : PlanQuestion) (list : List ℕ) {r : Refusal} → planFault ns rs q list ≡ Refused r
+    → numberOf r < 10
+refused-early ns rs q list {r} e =
+    below (subst (Early 10) (sym (plan-fault-is ns rs q list) ∙ e) (plan-early ns rs q (length list)))
+  where
+    below : Early 10 (Refused r) → numberOf r < 10
+    below (refused h) = h

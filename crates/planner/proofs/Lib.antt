@@ -8,3 +8,4 @@ pub mod FixedRoute
 pub mod BestNoLess
 pub mod SameJunction
 pub mod NoLoop
+pub mod NoRoutes

@@ -1,7 +1,7 @@
 -- A walk that returns to a junction never arrives with more than the walk without the loop. Assumes nothing.
-use mathlib.Core.Path.{_≡_, refl, ap, _∙_}
-use mathlib.Core.List.{List, _++_}
-use Prim.Native.Nat.{ℕ, suc, _≤_}
+use mathlib.Core.Path.{_≡_, refl, ap}
+use mathlib.Core.List.{_++_}
+use Prim.Native.Nat.{suc, _≤_}
 use native.Mathlib.Omega.{arith}
 use Rattle.battery.specs.Drive.{fresh, driveAll}
 use Rattle.battery.specs.declared.Drove.{Drove}

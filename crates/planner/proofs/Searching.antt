@@ -1,29 +1,21 @@
 -- From the search's promise, which speaks of labels, to that of best route, which speaks of roads and charges. Assumes nothing.
-use mathlib.Core.Path.{_≡_, refl, sym, ap, _∙_, subst}
-use mathlib.Core.Bool.{true, _&&_}
+use mathlib.Core.Path.{_≡_, refl, sym, ap, _∙_}
 use mathlib.Core.List.{List, _++_}
-use Prim.Native.Nat.{ℕ, suc, _+_, _-_, _%_, _≤_, _<_}
+use Prim.Native.Nat.{ℕ, suc, _+_, _≤_, _<_}
 use native.Mathlib.Omega.{arith}
-use borrow.Author.Tests.{leb-true, ltb-true}
-use lib.Dec.{ltb, leb, eqb}
 use lib.ListN.{length, take, drop, length-append}
 use lib.Seq.{take-append-seam}
 use Rattle.numbers.specs.Signed.{draw}
-use Rattle.battery.specs.Drive.{fresh, driveAll}
-use Rattle.battery.specs.Rule.{mostBattery}
+use Rattle.battery.specs.Drive.{driveAll}
 use Rattle.battery.specs.declared.Drove.{Drove}
 use Rattle.battery.specs.declared.Drove.the-variants.{On, TooLow}
 use Rattle.battery.specs.declared.Van.{Van}
-use Rattle.network.proofs.Faults.{each-passed, unless-passed, both-true}
 use Rattle.network.proofs.Records.{all-ranged}
-use Rattle.network.specs.Check.{firstOf, recordsFault}
-use Rattle.network.specs.Files.{junctions, roadCount, junctionFile, roadFile, isJunction, junctionBytes, roadBytes, mostJunctions, mostRoads}
-use Rattle.network.specs.Walks.{Walk, Once, roadsOf}
-use Rattle.network.specs.declared.Checked.{Checked}
+use Rattle.network.specs.Files.{junctions}
+use Rattle.network.specs.Walks.{Once, roadsOf}
 use Rattle.network.specs.declared.Checked.the-variants as checked
-use Rattle.network.specs.declared.Refusal.the-variants.{JunctionFile, RoadFile, Battery, Start, NoJunction, ShortList, NoRoute}
+use Rattle.network.specs.declared.Refusal.the-variants.{NoRoute}
 use Rattle.routes.proofs.Exactly.{driven-exactly}
-use Rattle.routes.specs.Places.{driveFaults}
 use Rattle.routes.specs.Steps.{DriveAsks}
 use Rattle.walks.specs.Label.{after, Best}
 use Rattle.search.proofs.Forward.{forward, label, label-after}
@@ -32,58 +24,14 @@ use Rattle.search.specs.Reading.{net}
 use Rattle.search.specs.Steps.{FindAsks}
 use Rattle.search.specs.declared.Found.the-variants.{Nowhere, Roads}
 use Rattle.search.specs.declared.Trip.{Trip}
-use Rattle.planner.specs.Before.{beforePlan}
 use Rattle.planner.specs.Given.{planNumbers}
-use Rattle.planner.specs.Order.{isBattery, isStart, hasRoom, planVan, planFault}
+use Rattle.planner.specs.Order.{planVan, planFault}
 use Rattle.planner.specs.Planning.{FoundAsks, FoundKeeps}
-use Rattle.planner.specs.Promises.{Arrives, Most, NoWalk, Plans}
+use Rattle.planner.specs.Promises.{Arrives, Most, Plans}
 use Rattle.planner.specs.declared.Planned.{Planned}
 use Rattle.planner.specs.declared.Planned.the-variants as planned
 use Rattle.planner.specs.declared.PlanQuestion.{PlanQuestion}
-use Rattle.planner.proofs.Cleared.{battery-whole, start-whole}
-
--- ---- 1 to 9 have passed
-
-pub record PlanCleared (ns rs : List ℕ) (q : PlanQuestion) (list : List ℕ) : Type 0 where
-  pub few : junctions ns ≤ mostJunctions
-  pub few-roads : roadCount rs ≤ mostRoads
-  pub battery-ok : isBattery (q .battery) ≡ true
-  pub start-ok : isStart (q .battery) (q .start) ≡ true
-  pub source-in : q .source < junctions ns
-  pub target-in : q .target < junctions ns
-  pub room : junctions ns ≤ length list + 1
-  pub records-ok : recordsFault ns rs ≡ checked.Passed
-
-pub plan-cleared : (ns rs : List ℕ) (q : PlanQuestion) (list : List ℕ) → planFault ns rs q list ≡ checked.Passed
-    → PlanCleared ns rs q list
-unfolding planFault
-plan-cleared ns rs q list e =
-    let a = each-passed (beforePlan ns rs q (length list)) e in
-    let b = a .1 .1 in
-    let c = b .1 .1 in
-    let n = both-true (ltb 0 (length ns)) _ (unless-passed (junctionFile ns) JunctionFile (a .0)) .1 in
-    let j =
-    both-true (isJunction ns (q .source)) (isJunction ns (q .target))
-    (unless-passed (isJunction ns (q .source) && isJunction ns (q .target)) NoJunction (c .0))
-    in
-    let h = leb-true (junctions ns - 1) (length list) (unless-passed (hasRoom ns list) ShortList (c .1 .0)) in
-    record {
-      few = leb-true _ _ (both-true (eqb (length ns % junctionBytes) 0) (leb (junctions ns) mostJunctions) n .1);
-      few-roads =
-          leb-true _ _
-          (both-true (eqb (length rs % roadBytes) 0) (leb (roadCount rs) mostRoads) (unless-passed (roadFile rs) RoadFile (a .1 .0)) .1);
-      battery-ok = unless-passed (isBattery (q .battery)) Battery (b .0);
-      start-ok = unless-passed (isStart (q .battery) (q .start)) Start (b .1 .0);
-      source-in = ltb-true _ _ (j .0);
-      target-in = ltb-true _ _ (j .1);
-      room = omega arith;
-      records-ok = c .1 .1 .0;
-    }
-
--- the tests as the code makes them
-pub plan-fault-is : (ns rs : List ℕ) (q : PlanQuestion) (list : List ℕ) → planFault ns rs q list ≡ firstOf (beforePlan ns rs q (length list))
-unfolding planFault
-plan-fault-is ns rs q list = refl
+use Rattle.planner.proofs.Cleared.{battery-whole, start-whole, PlanCleared, plan-cleared}
 
 -- the trip that is searched: the label is the start charge plus one
 abbrev pub tripOf : PlanQuestion → Trip

@@ -14,7 +14,7 @@ use Rattle.network.specs.Files.{roadCount, roadOf, Passing}
 use Rattle.network.specs.Walks.{Walk, roadsOf}
 use Rattle.network.specs.declared.Checked.the-variants.{Passed}
 use Rattle.planner.specs.Order.{planFault}
-use Rattle.planner.specs.Promises.{Checks, Plans, Drives, Profiles}
+use Rattle.planner.specs.Promises.{NoWalk, Checks, Plans, Drives, Profiles}
 use Rattle.planner.specs.declared.PlanNumbers.{PlanNumbers}
 use Rattle.planner.specs.declared.PlanQuestion.{PlanQuestion}
 use Rattle.planner.specs.declared.CheckNumbers.{CheckNumbers}
@@ -69,6 +69,16 @@ FixedRoute =
     → leZ (q .battery) (q' .battery) ≡ true → leZ (q .start) (q' .start) ≡ true
     → a .number ≡ 0 → (b .number ≡ 0) ⊎ (b .number ≡ 14)
     → NoLess q q' a b
+
+-- 10 exactly when no feasible walk exists and none of 1 to 9 applies
+pub record Ten (ns rs : List ℕ) (q : PlanQuestion) (list : List ℕ) (a : PlanNumbers) : Type 0 where
+  pub means : a .number ≡ 10 → (planFault ns rs q list ≡ Passed) × NoWalk rs q
+  pub given : planFault ns rs q list ≡ Passed → NoWalk rs q → a .number ≡ 10
+
+abbrev pub TenExactly : Type 0
+TenExactly =
+    (ns rs : List ℕ) (q : PlanQuestion) (list : List ℕ) (a : PlanNumbers) (xs : List ℕ)
+    → Plans ns rs q list a xs → Ten ns rs q list a
 
 -- the second network is no harder: each road of the first has a road with the same ends and no higher consumption in it
 pub record NoHigher (r r' : Road) : Type 0 where

@@ -86,8 +86,8 @@ pub fn check(nodes: &[u8], roads: &[u8]) -> Checked
     network::check(nodes, roads)
 }
 
-// Best route: of all walks from source to target, of any length, one that arrives with the most charge. Its roads stand at
-// the front of the list.
+// Best route: of all walks from source to target, of any length, one that arrives with the most
+// charge. Its roads stand at the front of the list.
 pub fn best_route(nodes: &[u8], roads: &[u8], question: PlanQuestion, list: &mut [u16]) -> Planned
     ensures { λ r. ⌜ Plans (now (nodes .entry)) (now (roads .entry)) question (now (list .entry)) (planNumbers r) (now (list .exit)) ⌝ }
 {

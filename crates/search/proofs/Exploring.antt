@@ -8,8 +8,8 @@ use native.Mathlib.Omega.{arith}
 use lib.ListN.{length, set, length-set}
 use Rattle.frontier.proofs.Empty.{empty, empty-top}
 use Rattle.frontier.proofs.Stores.{put-of}
-use Rattle.frontier.specs.Frontier.{places, keysFrom, entry, keyAt, Put, Frontier, Top, Raises, Removes, Now}
-use Rattle.network.specs.Files.{junctions, roadCount}
+use Rattle.frontier.specs.Frontier.{places, keysFrom, entry, keyAt, Put, Raises, Removes, Now}
+use Rattle.network.specs.Files.{junctions}
 use Rattle.walks.specs.Label.{Best}
 use Rattle.search.specs.Reading.{psi, net}
 use Rattle.search.specs.State.{unsettled, Busy, Idle, Next}

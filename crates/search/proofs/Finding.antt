@@ -1,19 +1,18 @@
 -- A search in lists that are all 0 at first, and the route that it writes. Assumes nothing.
-use mathlib.Core.Path.{_≡_, refl, sym, ap, _∙_, subst}
-use mathlib.Core.List.{List, [], _∷_, _++_}
+use mathlib.Core.Path.{_≡_, refl, sym, subst}
+use mathlib.Core.List.{List, _++_}
 use mathlib.Core.Logic.{inl}
-use Prim.Native.Nat.{ℕ, zero, suc, _+_, _≤_, _<_}
+use Prim.Native.Nat.{ℕ, zero, suc, _+_, _<_}
 use native.Mathlib.Omega.{arith}
 use lib.ListN.{length, drop, replicate, length-replicate}
 use Rattle.frontier.specs.Frontier.{keysFrom, entry}
 use Rattle.network.specs.Files.{junctions, roadCount, mostJunctions, mostRoads}
-use Rattle.walks.specs.Label.{Net, after, Best}
+use Rattle.walks.specs.Label.{Best}
 use Rattle.search.specs.Chains.{Chained, ChainAsks}
 use Rattle.search.specs.Found.{Finds, nowhere, route}
 use Rattle.search.specs.Reading.{net}
 use Rattle.search.specs.Steps.{ExploreAsks, Explored, FindAsks}
 use Rattle.search.specs.Trails.{Route, TrailOf, Trailed, WriteAsks, Counted, Written}
-use Rattle.search.specs.declared.Found.{Found}
 use Rattle.search.specs.declared.Found.the-variants.{Nowhere, Roads}
 use Rattle.search.specs.declared.Reading.{Reading}
 use Rattle.search.specs.declared.Trip.{Trip}

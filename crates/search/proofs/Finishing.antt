@@ -1,5 +1,5 @@
 -- What a search has found at its end: the best label of every junction, or of the one where it was stopped. Assumes nothing.
-use mathlib.Core.Path.{_≡_, refl, ap, _∙_}
+use mathlib.Core.Path.{_≡_, refl, ap}
 use mathlib.Core.List.{List}
 use mathlib.Core.Logic.{_≢_}
 use Prim.Native.Nat.{ℕ, _+_, _≤_, _<_}
@@ -9,7 +9,7 @@ use Rattle.walks.proofs.Bounds.{closed-bounds, early-stop}
 use Rattle.walks.specs.Claims.{Front}
 use Rattle.walks.specs.Label.{Net, Laws, after, Best}
 use Rattle.walks.specs.Walk.{Walk}
-use Rattle.search.specs.State.{Settled, State, Kept, Busy, Idle}
+use Rattle.search.specs.State.{Settled, Kept, Busy, Idle}
 use Rattle.search.specs.Trails.{Route}
 use Rattle.search.proofs.Counting.{settled?}
 use Rattle.search.proofs.Tracing.{traced}

@@ -2,7 +2,7 @@
 use mathlib.Core.Path.{_≡_, refl, sym, ap, _∙_, subst}
 use mathlib.Core.Bool.{Bool, true, false}
 use mathlib.Core.List.{List}
-use Prim.Native.Nat.{ℕ, _+_, _≤_, _<_, _%_, max}
+use Prim.Native.Nat.{ℕ, _≤_, _<_, _%_, max}
 use native.Mathlib.Decide.{ℕ-discrete}
 use native.Mathlib.Omega.{arith}
 use borrow.Author.Tests.{lt-ltb, le-ltb, ltb-true, ltb-false}
@@ -10,9 +10,8 @@ use lib.Dec.{ltb}
 use lib.ListN.{length, set, length-set}
 use lib.Seq.{set-getD}
 use Rattle.frontier.proofs.Stores.{put-of}
-use Rattle.frontier.specs.Frontier.{places, keysFrom, entry, keyAt, Put, Now, Raises}
-use Rattle.network.specs.Files.{mostJunctions}
-use Rattle.search.specs.Steps.{Sized, Queued, choose, better, Same, Change, passed, taken, OfferAsks, Offered}
+use Rattle.frontier.specs.Frontier.{places, entry, keyAt, Put, Now, Raises}
+use Rattle.search.specs.Steps.{choose, better, Same, Change, passed, taken, OfferAsks, Offered}
 use Rattle.search.specs.declared.Offer.{Offer}
 
 pub better-yes : {old new : ℕ} (x y : ℕ) → old < new → y ≡ better old new x y

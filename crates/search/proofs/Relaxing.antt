@@ -1,12 +1,12 @@
 -- Relaxing one road of the junction settled last keeps the state. Assumes nothing.
-use mathlib.Core.Path.{_≡_, refl, sym, ap, _∙_, subst}
+use mathlib.Core.Path.{_≡_, sym, ap, _∙_, subst}
 use mathlib.Core.Logic.{_≢_}
 use Prim.Native.Nat.{ℕ, suc, _+_, _≤_, _<_}
 use native.Mathlib.Decide.{ℕ-discrete}
 use native.Mathlib.Omega.{arith}
 use Rattle.frontier.specs.Frontier.{Put}
 use Rattle.walks.specs.Label.{Net, Laws}
-use Rattle.search.specs.State.{Settled, due, unsettled, Via, State, Kept, Busy, Idle}
+use Rattle.search.specs.State.{Settled, due, Via, Kept, Busy, Idle}
 use Rattle.search.proofs.Counting.{settled?, due-some, unsettled-same}
 
 module _ (N : Net) (psi : ℕ → ℕ) (n s l turns u k : ℕ) (L W K : ℕ → ℕ) (b : Busy N psi n s l turns u (suc k) L W K)

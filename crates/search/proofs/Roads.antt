@@ -1,16 +1,15 @@
 -- One road relaxed: what its parts ask, and what they come to. Assumes nothing.
-use mathlib.Core.Path.{_≡_, refl, sym, ap, _∙_, subst}
+use mathlib.Core.Path.{_≡_, ap, _∙_, subst}
 use mathlib.Core.List.{List}
 use Prim.Native.Nat.{ℕ, _+_, _%_, _≤_, _<_}
 use native.Mathlib.Decide.{ℕ-discrete}
 use native.Mathlib.Omega.{arith}
 use Rattle.battery.specs.declared.Road.{Road}
 use Rattle.frontier.specs.Frontier.{places, entry, keyAt}
-use Rattle.network.proofs.Records.{all-sound, all-ranged}
-use Rattle.network.specs.Files.{junctions, roadCount, roadOf, mostJunctions}
+use Rattle.network.proofs.Records.{all-ranged}
+use Rattle.network.specs.Files.{roadOf}
 use Rattle.search.specs.Reading.{left, stepOf, psi, net}
 use Rattle.search.specs.Steps.{StepAsks, waiting, packed, KeyAsks, Change, passed, taken, OfferAsks, Offered, RelaxAsks, Relaxed, RelaxKeeps}
-use Rattle.search.specs.declared.Offer.{Offer}
 use Rattle.search.specs.declared.Reading.{Reading}
 use Rattle.search.proofs.Laws.{step-le, heads-in}
 

@@ -1,12 +1,12 @@
 -- The state where a search begins, and when the junction with the greatest key is settled. Assumes nothing.
 use mathlib.Core.Path.{_≡_, refl, sym, ap, _∙_}
 use mathlib.Core.Logic.{_≢_}
-use Prim.Native.Nat.{ℕ, zero, suc, _+_, _≤_, _<_}
-use native.Mathlib.Decide.{decLt, ℕ-discrete}
+use Prim.Native.Nat.{ℕ, suc, _+_, _≤_, _<_}
+use native.Mathlib.Decide.{ℕ-discrete}
 use native.Mathlib.Omega.{arith}
 use Rattle.frontier.specs.Frontier.{Put}
 use Rattle.walks.specs.Label.{Net}
-use Rattle.search.specs.State.{Settled, due, unsettled, Via, State, Kept, Busy, Idle, Next}
+use Rattle.search.specs.State.{Settled, due, unsettled, Via, Kept, Busy, Idle, Next}
 use Rattle.search.proofs.Counting.{due-some, settled-due, unsettled-one, unsettled-all}
 
 -- ---- a function changed at one place

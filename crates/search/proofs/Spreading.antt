@@ -1,17 +1,16 @@
 -- The roads of the junction settled last, one after another along its chain. Assumes nothing.
 use mathlib.Core.Path.{_≡_, refl, sym, ap, _∙_, subst}
 use mathlib.Core.List.{List}
-use mathlib.Core.Logic.{_≢_}
-use Prim.Native.Nat.{ℕ, zero, suc, _+_, _-_, _*_, _/_, _≤_, _<_, max}
+use Prim.Native.Nat.{ℕ, suc, _+_, _-_, _/_, _≤_, _<_, max}
 use native.Mathlib.Decide.{decLt}
 use native.Mathlib.Omega.{arith}
 use Rattle.frontier.specs.Frontier.{places, entry, keyAt, Put}
-use Rattle.network.specs.Files.{junctions, roadCount, mostJunctions}
+use Rattle.network.specs.Files.{junctions, roadCount}
 use Rattle.walks.specs.Label.{Net, Laws}
-use Rattle.search.specs.Chains.{lastOf, previousOf, Link, Chained}
+use Rattle.search.specs.Chains.{previousOf, Link}
 use Rattle.search.specs.Reading.{psi, net}
 use Rattle.search.specs.State.{Busy}
-use Rattle.search.specs.Steps.{Readable, waiting, packed, Underway, Same, Change, passed, taken, RelaxAsks, Relaxed, RelaxKeeps, SpreadAsks, Spreads, SpreadKeeps}
+use Rattle.search.specs.Steps.{waiting, packed, Underway, Same, passed, taken, RelaxAsks, Relaxed, RelaxKeeps, SpreadAsks, Spreads, SpreadKeeps}
 use Rattle.search.specs.declared.Reading.{Reading}
 use Rattle.search.proofs.Laws.{laws, heads-in, count-is}
 use Rattle.search.proofs.Relaxing.{pass, take, keeps-u}

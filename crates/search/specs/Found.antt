@@ -1,6 +1,5 @@
 -- What a search promises: a route that brings the best label of all walks, written at the front of the list, or that no walk
--- brings any.
-use mathlib.Core.Path.{_≡_}
+-- brings any. No entry's promise cites this file.
 use mathlib.Core.List.{List, _++_}
 use Prim.Native.Nat.{ℕ, _<_}
 use lib.ListN.{length, drop}

@@ -1,5 +1,5 @@
 -- How a search reads the roads of a file: which end is entered, what a road brings, and the number psi of each junction. A
--- label is a charge plus one, and 0 is none.
+-- label is a charge plus one, and 0 is none. No entry's promise cites this file.
 use mathlib.Core.Bool.{Bool, true, false}
 use mathlib.Core.List.{List}
 use Prim.Native.Nat.{ℕ, zero, suc}

@@ -1,4 +1,5 @@
-// The search for the best label of each junction, and the route that brings it. A label is a charge plus one, and 0 is none.
+// The search for the best label of each junction, and the route that brings it. A label is a charge
+// plus one, and 0 is none.
 ghost use mathlib.Core.Path.{_≡_};
 ghost use Prim.Native.Nat.{_+_, min};
 ghost use Rattle.frontier.specs.Frontier.{entry};
@@ -10,7 +11,8 @@ ghost use Rattle.search.specs.Steps.{StepAsks, better, packed, KeyAsks, 
 ghost use Rattle.search.specs.Trails.{Trailed, Counted, WriteAsks, Written};
 use battery::Road;
 
-// In which sense roads are read: forward, from tail to head, a label being the charge that a van has, plus one.
+// In which sense roads are read: forward, from tail to head, a label being the charge that a van
+// has, plus one.
 pub enum Sense {
     Forward,
 }
@@ -21,8 +23,8 @@ pub struct Reading {
     pub battery: u32,
 }
 
-// From where a search sets out and with what label, and the junction where it may stop; a target that is no junction never
-// stops it.
+// From where a search sets out and with what label, and the junction where it may stop. A target
+// that is no junction never stops it, and then every label is the best.
 pub struct Trip {
     pub source: usize,
     pub label: u32,
@@ -42,80 +44,11 @@ struct Offer {
     key: u64,
 }
 
-// The sizes of the search's lists: one place for each junction, and one link for each junction and each road.
-const QUEUE: usize = 2632;
+// The sizes of the queue and of the chains: a place for each junction; a link for each junction and
+// each road.
+const QUEUE: usize = frontier::KEYS + network::MOST_JUNCTIONS;
 
-const CHAINS: usize = 10240;
-
-impl Reading {
-    // The junction where a road is entered.
-    fn entered(self, road: Road) -> usize
-        ensures { λ r. ⌜ r ≡ entered (self .sense) road ⌝ }
-    {
-        let sense = self.sense;
-        match sense {
-            Sense::Forward => road.tail as usize,
-        }
-    }
-
-    // The junction where it is left.
-    fn left(self, road: Road) -> usize
-        ensures { λ r. ⌜ r ≡ left (self .sense) road ⌝ }
-    {
-        let sense = self.sense;
-        match sense {
-            Sense::Forward => road.head as usize,
-        }
-    }
-
-    // The label that a road brings, from a label where it is entered.
-    fn step(self, road: Road, label: u32) -> u32
-        requires { ⌜ StepAsks (self .battery) road label ⌝ }
-        ensures { λ r. ⌜ r ≡ stepOf (self .sense) (self .battery) road label ⌝ }
-    {
-        let sense = self.sense;
-        match sense {
-            Sense::Forward => step_forward(self.battery, road, label),
-        }
-    }
-
-    // The number of a junction, from its potential.
-    fn psi(self, potential: i32) -> u32
-        ensures { λ r. ⌜ r ≡ psiOf (self .sense) potential ⌝ }
-    {
-        let sense = self.sense;
-        match sense {
-            Sense::Forward => below_most(potential),
-        }
-    }
-}
-
-// By the battery rule: the smaller of charge - consumption and the battery size, as labels.
-fn step_forward(battery: u32, road: Road, label: u32) -> u32
-    requires { ⌜ StepAsks battery road label ⌝ }
-    ensures { λ r. ⌜ r ≡ stepForward battery road label ⌝ }
-{
-    let takes = numbers::drawn(road.consumption);
-    let has = label + numbers::gained(road.consumption);
-    if takes < has {
-        smaller(has - takes, battery + 1)
-    } else {
-        0
-    }
-}
-
-fn smaller(x: u32, y: u32) -> u32
-    ensures { λ r. ⌜ r ≡ min x y ⌝ }
-{
-    if x < y { x } else { y }
-}
-
-// How far a potential stands below the largest.
-fn below_most(potential: i32) -> u32
-    ensures { λ r. ⌜ r ≡ psiForward potential ⌝ }
-{
-    numbers::whole(2147483647 - potential as i64)
-}
+const CHAINS: usize = network::MOST_JUNCTIONS + network::MOST_ROADS;
 
 // The best route from the trip's source to its target, written at the front of the list.
 pub fn find(nodes: &[u8], roads: &[u8], reading: Reading, trip: Trip, list: &mut [u16]) -> Found
@@ -146,8 +79,8 @@ pub fn find(nodes: &[u8], roads: &[u8], reading: Reading, trip: Trip, list: &mut
     Found::Roads(count)
 }
 
-// Chains the roads: for each junction the last road entered there, for each road the previous one entered at the same
-// junction, each plus one, 0 for none.
+// Chains the roads: for each junction the last road entered there, for each road the previous one
+// entered at the same junction, each plus one, 0 for none.
 pub fn chain(roads: &[u8], reading: Reading, chains: &mut [u16])
     requires { ⌜ ChainAsks (net reading (now roads) .roads) (now chains) ⌝ }
     ensures { λ _. ⌜ Chained (net reading (now (roads .entry)) .roads) (roadCount (now (roads .entry))) (now (chains .exit)) ⌝ }
@@ -162,7 +95,8 @@ pub fn chain(roads: &[u8], reading: Reading, chains: &mut [u16])
     }
 }
 
-// Settles one junction after another, the greatest key first, until the target is settled or none waits.
+// Settles one junction after another, the greatest key first, until the target is settled or none
+// waits.
 pub fn explore(
     nodes: &[u8],
     roads: &[u8],
@@ -254,7 +188,8 @@ fn key(nodes: &[u8], reading: Reading, v: usize, label: u32) -> u64
     (label as u64 + number as u64) * frontier::PLACES + v as u64
 }
 
-// Takes the offer to v where it betters the label. There is no branch, since which it is cannot be foretold.
+// Takes the offer to v where it betters the label. There is no branch, since which it is cannot be
+// foretold.
 fn take(
     labels: &mut [u32],
     ways: &mut [u16],
@@ -326,4 +261,74 @@ fn write_back(
         list[i] = k;
         v = reading.entered(network::road_at(roads, k as usize));
     }
+}
+
+impl Reading {
+    // The junction where a road is entered.
+    fn entered(self, road: Road) -> usize
+        ensures { λ r. ⌜ r ≡ entered (self .sense) road ⌝ }
+    {
+        let sense = self.sense;
+        match sense {
+            Sense::Forward => road.tail as usize,
+        }
+    }
+
+    // The junction where it is left.
+    fn left(self, road: Road) -> usize
+        ensures { λ r. ⌜ r ≡ left (self .sense) road ⌝ }
+    {
+        let sense = self.sense;
+        match sense {
+            Sense::Forward => road.head as usize,
+        }
+    }
+
+    // The label that a road brings, from a label where it is entered.
+    fn step(self, road: Road, label: u32) -> u32
+        requires { ⌜ StepAsks (self .battery) road label ⌝ }
+        ensures { λ r. ⌜ r ≡ stepOf (self .sense) (self .battery) road label ⌝ }
+    {
+        let sense = self.sense;
+        match sense {
+            Sense::Forward => step_forward(self.battery, road, label),
+        }
+    }
+
+    // The number of a junction, from its potential.
+    fn psi(self, potential: i32) -> u32
+        ensures { λ r. ⌜ r ≡ psiOf (self .sense) potential ⌝ }
+    {
+        let sense = self.sense;
+        match sense {
+            Sense::Forward => below_most(potential),
+        }
+    }
+}
+
+// By the battery rule: the smaller of charge - consumption and the battery size, as labels.
+fn step_forward(battery: u32, road: Road, label: u32) -> u32
+    requires { ⌜ StepAsks battery road label ⌝ }
+    ensures { λ r. ⌜ r ≡ stepForward battery road label ⌝ }
+{
+    let takes = numbers::drawn(road.consumption);
+    let has = label + numbers::gained(road.consumption);
+    if takes < has {
+        smaller(has - takes, battery + 1)
+    } else {
+        0
+    }
+}
+
+fn smaller(x: u32, y: u32) -> u32
+    ensures { λ r. ⌜ r ≡ min x y ⌝ }
+{
+    if x < y { x } else { y }
+}
+
+// How far a potential stands below the largest.
+fn below_most(potential: i32) -> u32
+    ensures { λ r. ⌜ r ≡ psiForward potential ⌝ }
+{
+    numbers::whole(2147483647 - potential as i64)
 }

@@ -7,8 +7,7 @@ use Rattle.battery.specs.Drive.{fresh}
 use Rattle.network.specs.declared.Checked.the-variants as checked
 use Rattle.planner.specs.Order.{planVan, planFault}
 use Rattle.planner.specs.Promises.{Plans}
-use Rattle.planner.proofs.Cleared.{both-whole}
-use Rattle.planner.proofs.Searching.{plan-fault-is, plan-cleared}
+use Rattle.planner.proofs.Cleared.{both-whole, plan-cleared, plan-fault-is}
 use Rattle.planner.proofs.best_route.Statement.{statement}
 use Rattle.planner.proofs.best_route.Tie as tie
 

@@ -12,12 +12,10 @@ use Rattle.search.specs.Found.{Finds}
 use Rattle.search.specs.Reading.{net}
 use Rattle.search.specs.Steps.{FindAsks}
 use Rattle.search.specs.declared.Found.{Found}
-use Rattle.search.specs.declared.Found.the-variants.{Nowhere, Roads}
 use Rattle.planner.specs.Order.{planVan}
 use Rattle.planner.specs.Planning.{FoundAsks, FoundKeeps}
-use Rattle.planner.specs.declared.PlanQuestion.{PlanQuestion}
-use Rattle.planner.proofs.Cleared.{start-whole}
-use Rattle.planner.proofs.Searching.{plan-cleared, find-asks, plans-none, BestWalk, best-walk, count-le, found-asks, plans-route}
+use Rattle.planner.proofs.Cleared.{start-whole, plan-cleared}
+use Rattle.planner.proofs.Searching.{find-asks, plans-none, BestWalk, best-walk, count-le, found-asks, plans-route}
 use Rattle.planner.proofs.plan.Statement.{statement}
 use Rattle.planner.proofs.plan.Tie as tie
 

@@ -1,5 +1,5 @@
 -- `search::step_forward` meets its contract: what the code works out is the step in naturals. Assumes nothing.
-use mathlib.Core.Path.{_≡_, sym, ap, _∙_}
+use mathlib.Core.Path.{_≡_, ap, _∙_}
 use native.Mathlib.Omega.{arith}
 use borrow.Author.Needs.{needs}
 use Rattle.numbers.proofs.Bits.{back32}

@@ -1,6 +1,5 @@
 -- `rows::shown::entries` is safe. Invariant: i is a place of the list, or its end. Measure: the places left. Assumes nothing.
 use Prim.Native.Nat.{_-_, _≤_}
-use native.Mathlib.Omega.{arith}
 use borrow.Author.Needs.{needs}
 use lib.ListN.{length}
 use Rattle.rows.proofs.shown.entries.Statement.{statement}
