@@ -32,6 +32,9 @@ no-roads rs q list ks v e d =
     record {
       no-roads = ap length e;
       arrival-is = sym (ap (λ (x : Van). x .charge) u);
+      drawn-is = sym (ap (λ (x : Van). x .drawn) u);
+      recovered-is = sym (ap (λ (x : Van). x .recovered) u);
+      spilled-is = sym (ap (λ (x : Van). x .spilled) u);
       list-is = ap (λ (xs : List ℕ). xs ++ drop (length xs) list) e;
     }
 

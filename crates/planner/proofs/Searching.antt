@@ -22,6 +22,7 @@ use Rattle.search.proofs.Forward.{forward, label, label-after}
 use Rattle.search.specs.Found.{Finds, nowhere, route}
 use Rattle.search.specs.Reading.{net}
 use Rattle.search.specs.Steps.{FindAsks}
+use Rattle.search.specs.declared.Found.{Found}
 use Rattle.search.specs.declared.Found.the-variants.{Nowhere, Roads}
 use Rattle.search.specs.declared.Trip.{Trip}
 use Rattle.planner.specs.Given.{planNumbers}
@@ -33,12 +34,12 @@ use Rattle.planner.specs.declared.Planned.the-variants as planned
 use Rattle.planner.specs.declared.PlanQuestion.{PlanQuestion}
 use Rattle.planner.proofs.Cleared.{battery-whole, start-whole, PlanCleared, plan-cleared}
 
--- the trip that is searched: the label is the start charge plus one
-abbrev pub tripOf : PlanQuestion → Trip
-tripOf q = record { source = q .source; label = draw (q .start) + 1; target = q .target }
+-- the trip that is searched: the label is the charge of the van that sets out, plus one
+abbrev pub tripFor : PlanQuestion → Van → Trip
+tripFor q v = record { source = q .source; label = v .charge + 1; target = q .target }
 
 pub find-asks : (ns rs : List ℕ) (q : PlanQuestion) (list : List ℕ) → PlanCleared ns rs q list
-    → FindAsks (forward (draw (q .battery))) ns rs (tripOf q) list
+    → FindAsks (forward (draw (q .battery))) ns rs (tripFor q (planVan q)) list
 find-asks ns rs q list c =
     let s = start-whole (q .battery) (q .start) (c .battery-ok) (c .start-ok) in
     record {
@@ -55,6 +56,11 @@ find-asks ns rs q list c =
       label-le = omega (arith, s .1);
       room = c .room;
     }
+
+-- what the search promises for the van v
+abbrev pub FindsFor : List ℕ → List ℕ → PlanQuestion → Van → List ℕ → Found → List ℕ → Type 0
+FindsFor ns rs q v list found list' =
+    Finds (net (forward (v .battery)) rs) (junctions ns) (q .source) (v .charge + 1) (q .target) list found list'
 
 -- ---- labels and charges
 
@@ -87,7 +93,7 @@ module _ (rs : List ℕ) (q : PlanQuestion) where
 module _ (ns rs : List ℕ) (q : PlanQuestion) (list : List ℕ) (passed : planFault ns rs q list ≡ checked.Passed) where
   -- no route
   pub plans-none : (list' : List ℕ)
-      → Finds (net (forward (draw (q .battery))) rs) (junctions ns) (q .source) (draw (q .start) + 1) (q .target) list Nowhere list'
+      → FindsFor ns rs q (planVan q) list Nowhere list'
       → Plans ns rs q list (planNumbers (planned.Refused NoRoute)) list'
   plans-none list' (nowhere best) = Plans.none passed (λ ks v a. omega (arith, bound rs q 0 best ks v a))
 
@@ -103,7 +109,7 @@ pub record BestWalk (ns rs : List ℕ) (q : PlanQuestion) (list : List ℕ) (cou
   pub list-is : list' ≡ by ++ drop (length by) list
 
 pub best-walk : (ns rs : List ℕ) (q : PlanQuestion) (list : List ℕ) (count : ℕ) (list' : List ℕ)
-    → Finds (net (forward (draw (q .battery))) rs) (junctions ns) (q .source) (draw (q .start) + 1) (q .target) list (Roads count) list'
+    → FindsFor ns rs q (planVan q) list (Roads count) list'
     → BestWalk ns rs q list count list'
 unfolding net brings
 best-walk ns rs q list count list' (route ks few walk once some best) =

@@ -100,10 +100,13 @@ BestNoLess =
     → leZ (q .start) (q' .start) ≡ true → a .number ≡ 0 → (b .number ≡ 0) ⊎ (b .number ≡ 10)
     → (b .number ≡ 0) × (a .arrival ≤ b .arrival)
 
--- source = target: the empty route, arrival = start
+-- source = target: the empty route, arrival = start, nothing drawn, recovered or spilled
 pub record StaysPut (q : PlanQuestion) (list : List ℕ) (a : PlanNumbers) (xs : List ℕ) : Type 0 where
   pub no-roads : a .roads ≡ 0
   pub arrival-is : a .arrival ≡ draw (q .start)
+  pub drawn-is : a .drawn ≡ 0
+  pub recovered-is : a .recovered ≡ 0
+  pub spilled-is : a .spilled ≡ 0
   pub list-is : xs ≡ list
 
 abbrev pub SameJunction : Type 0

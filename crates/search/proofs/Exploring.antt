@@ -33,9 +33,6 @@ left-over ns labels queue = unsettled (entry labels) (waiting queue) (junctions 
 
 module _ (rd : Reading) (ns rs chains : List ℕ) (trip : Trip) (labels₀ ways₀ queue₀ : List ℕ)
     (a : ExploreAsks rd ns rs chains trip labels₀ ways₀ queue₀) where
-  s : ℕ
-  s = trip .source
-
   -- ---- the beginning
 
   pub source-asks : KeyAsks ns (trip .source)
@@ -108,9 +105,6 @@ module _ (rd : Reading) (ns rs chains : List ℕ) (trip : Trip) (labels₀ ways�
   -- ---- one turn
 
   module _ (labels ways queue : List ℕ) (top : ℕ) (i : ExploreLoop rd ns rs trip labels ways queue top) (some : top ≢ 0) where
-    u : ℕ
-    u = top % places
-
     top-at : keyAt queue (top % places) ≡ top
     top-at = go (i .underway .queued .best .is)
       where
@@ -191,7 +185,7 @@ module _ (rd : Reading) (ns rs chains : List ℕ) (trip : Trip) (labels₀ ways�
           let l = laws rd ns rs (a .readable) in
           record {
             best = λ v d. best v d b;
-            route = λ _. route-t (net rd rs) (psi rd ns) l (junctions ns) (trip .source) (trip .label) (suc (i .turns)) (entry labels) (entry ways) (waiting queue₁) (trip .target) b;
+            route = λ _. route-t _ _ l _ _ _ _ _ _ _ _ b;
           }
         where
           best : (v : ℕ) → (v ≡ trip .target) ⊎ (entry labels (trip .target) ≡ 0)
@@ -229,6 +223,6 @@ module _ (rd : Reading) (ns rs chains : List ℕ) (trip : Trip) (labels₀ ways�
       let l = laws rd ns rs (a .readable) in
       let none : (v : ℕ) → waiting queue v ≡ 0 = λ v. omega (arith, i .underway .queued .best .most v) in
       record {
-        best = λ v _. best-all (net rd rs) (psi rd ns) l (junctions ns) (trip .source) (trip .label) (i .turns) (entry labels) (entry ways) (waiting queue) (i .idle) none v;
-        route = route-all (net rd rs) (psi rd ns) l (junctions ns) (trip .source) (trip .label) (i .turns) (entry labels) (entry ways) (waiting queue) (i .idle) none (trip .target);
+        best = λ v _. best-all _ _ l _ _ _ _ _ _ _ (i .idle) none v;
+        route = route-all _ _ l _ _ _ _ _ _ _ (i .idle) none (trip .target);
       }

@@ -54,7 +54,8 @@ module _ (rd : Reading) (ns rs : List ℕ) (trip : Trip) (list : List ℕ) (a : 
       }
 
   module _ (labels ways : List ℕ) (e : Explored (net rd rs) (junctions ns) trip (entry labels) (entry ways)) where
-    pub finds-nowhere : entry labels (trip .target) ≡ 0 → Finds (net rd rs) (junctions ns) (trip .source) (trip .label) (trip .target) list Nowhere list
+    pub finds-nowhere : entry labels (trip .target) ≡ 0
+        → Finds (net rd rs) (junctions ns) (trip .source) (trip .label) (trip .target) list Nowhere list
     finds-nowhere z =
         nowhere
         (subst (λ (x : ℕ). Best (net rd rs) (trip .source) (trip .label) (trip .target) x) z (e .best (trip .target) (inl refl)))
@@ -76,7 +77,8 @@ module _ (rd : Reading) (ns rs : List ℕ) (trip : Trip) (list : List ℕ) (a : 
           let p : count ≡ length (found .by) = c (found .by) trail in
           record { trailed = trailed; count-is = p; fits = omega (arith, found .few, a .room) }
 
-      finds : Finds (net rd rs) (junctions ns) (trip .source) (trip .label) (trip .target) list (Roads (length (found .by))) (found .by ++ drop (length (found .by)) list)
+      finds : Finds (net rd rs) (junctions ns) (trip .source) (trip .label) (trip .target) list (Roads (length (found .by)))
+          (found .by ++ drop (length (found .by)) list)
       finds =
           route (found .by) (found .few) (found .walk) (found .once) (omega (arith, found .brings))
           (subst (λ (x : ℕ). Best (net rd rs) (trip .source) (trip .label) (trip .target) x) (sym (found .brings))

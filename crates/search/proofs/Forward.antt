@@ -10,7 +10,7 @@ use Rattle.battery.specs.declared.Drove.{Drove}
 use Rattle.battery.specs.declared.Drove.the-variants.{On, TooLow}
 use Rattle.battery.specs.declared.Road.{Road}
 use Rattle.battery.specs.declared.Van.{Van}
-use Rattle.network.specs.Walks.{roadsIn, roadsOf}
+use Rattle.network.specs.Walks.{roadsOf}
 use Rattle.network.specs.Files.{roadOf}
 use Rattle.walks.specs.Label.{after}
 use Rattle.search.specs.Reading.{labelIf, stepForward, net}
@@ -19,11 +19,6 @@ use Rattle.search.specs.declared.Sense.the-variants.{Forward}
 
 abbrev pub forward : ℕ → Reading
 forward M = record { sense = Forward; battery = M }
-
--- the roads read forward are those of the file
-pub roads-forward : (M : ℕ) (rs : List ℕ) → net (forward M) rs .roads ≡ roadsIn rs
-unfolding net
-roads-forward M rs = refl
 
 abbrev pub label : Drove → ℕ
 label (On v) = suc (v .charge)

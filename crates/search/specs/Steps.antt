@@ -110,7 +110,8 @@ abbrev pub Relaxed : Net → (ℕ → ℕ) → ℕ → ℕ → (ℕ → ℕ) →
 Relaxed N psi k label L W K =
     Change L W K (N .roads .head k) (N .step k label) k (packed (N .step k label + psi (N .roads .head k)) (N .roads .head k))
 
-pub record RelaxKeeps (rd : Reading) (ns rs : List ℕ) (k label : ℕ) (labels ways queue labels' ways' queue' : List ℕ) (top : ℕ) : Type 0 where
+pub record RelaxKeeps (rd : Reading) (ns rs : List ℕ) (k label : ℕ) (labels ways queue labels' ways' queue' : List ℕ)
+    (top : ℕ) : Type 0 where
   pub underway : Underway rd labels' ways' queue' top
   pub relaxed : Relaxed (net rd rs) (psi rd ns) k label (entry labels) (entry ways) (keyAt queue) (entry labels') (entry ways') (keyAt queue')
 
@@ -124,14 +125,16 @@ pub record SpreadAsks (rd : Reading) (ns rs chains : List ℕ) (u : ℕ) (labels
   pub some : 0 < entry labels u
 
 -- from road p on down to road q of u, for a search from any source with any label
-abbrev pub Spreads : Reading → List ℕ → List ℕ → ℕ → ℕ → ℕ → List ℕ → List ℕ → List ℕ → List ℕ → List ℕ → List ℕ → Type 0
+abbrev pub Spreads : Reading → List ℕ → List ℕ → ℕ → ℕ → ℕ → List ℕ → List ℕ → List ℕ → List ℕ → List ℕ → List ℕ
+    → Type 0
 Spreads rd ns rs u p q labels ways queue labels' ways' queue' =
     (s l turns : ℕ)
     → Busy (net rd rs) (psi rd ns) (junctions ns) s l turns u p (entry labels) (entry ways) (waiting queue)
     → Busy (net rd rs) (psi rd ns) (junctions ns) s l turns u q (entry labels') (entry ways') (waiting queue')
     × (entry labels' u ≡ entry labels u)
 
-pub record SpreadKeeps (rd : Reading) (ns rs : List ℕ) (u : ℕ) (labels ways queue labels' ways' queue' : List ℕ) (top : ℕ) : Type 0 where
+pub record SpreadKeeps (rd : Reading) (ns rs : List ℕ) (u : ℕ) (labels ways queue labels' ways' queue' : List ℕ)
+    (top : ℕ) : Type 0 where
   pub underway : Underway rd labels' ways' queue' top
   pub spreads : Spreads rd ns rs u (roadCount rs) 0 labels ways queue labels' ways' queue'
 

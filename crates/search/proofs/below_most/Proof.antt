@@ -18,7 +18,9 @@ most-fits = record { sfits = omega arith }
 sub-whole : tie.Need-sub-whole
 sub-whole c = simp (wide-back (c .fits .potential)) (minus-fits most-fits (c .fits .potential))
 
-exact : (c : tie.Start) → toZ w64 (ofZ w64 (pos mostPotential -ℤ toZ w64 (ofZ w64 (toZ w32 (ofZ w32 (c .args .potential)))))) ≡ pos mostPotential -ℤ c .args .potential
+exact : (c : tie.Start) →
+    let p = toZ w64 (ofZ w64 (toZ w32 (ofZ w32 (c .args .potential)))) in
+    toZ w64 (ofZ w64 (pos mostPotential -ℤ p)) ≡ pos mostPotential -ℤ c .args .potential
 exact c = toZ-ofZ (sub-whole c) ∙ ap (λ (z : ℤ). pos mostPotential -ℤ z) (wide-back (c .fits .potential))
 
 whole-requires : tie.Need-whole-requires

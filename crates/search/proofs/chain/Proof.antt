@@ -1,10 +1,10 @@
 -- `search::chain` meets its contract. Invariant: the roads below k are chained. Measure: the roads left. Assumes nothing.
 use mathlib.Core.Path.{_≡_}
-use Prim.Native.Nat.{_-_, _≤_, _<_}
+use Prim.Native.Nat.{_+_, _-_, _≤_, _<_}
 use native.Mathlib.Omega.{arith}
 use borrow.Author.Needs.{needs}
 use lib.ListN.{length, length-set}
-use Rattle.network.specs.Files.{roadCount, mostJunctions}
+use Rattle.network.specs.Files.{roadCount, mostJunctions, mostRoads}
 use Rattle.search.proofs.Laws.{tail-at}
 use Rattle.search.proofs.Linking.{chained-none, chained-more}
 use Rattle.search.specs.Chains.{Chained}
@@ -19,22 +19,27 @@ abbrev μ-loop : tie.MeasureT-loop
 μ-loop roads reading chains₀ count k₀ chains k = count - k
 
 -- the junction where road k is entered
-at-v : (c : tie.After-entered Inv-loop μ-loop) → c .entered .result ≡ net (c .before .before .before .before .before .before .args .reading) (c .before .before .before .before .before .before .args .roads .now) .roads .tail (c .before .before .before .loop .k)
+at-v : (c : tie.After-entered Inv-loop μ-loop) →
+    let turn = c .before .before .before in
+    let a = turn .before .before .before .args in
+    c .entered .result ≡ net (a .reading) (a .roads .now) .roads .tail (turn .loop .k)
 at-v c = tail-at _ _ _ _ _ (c .entered .ensures) (c .before .road-at .ensures)
 
 within : (c : tie.After-entered Inv-loop μ-loop) → c .entered .result < mostJunctions
 unfolding net
-within c = omega (arith, at-v c, c .before .before .before .before .before .before .pre .within (c .before .before .before .loop .k) (c .before .before .loop-test .taken))
+within c =
+    let turn = c .before .before .before in
+    let start = turn .before .before .before in
+    omega (arith, at-v c, start .pre .within (turn .loop .k) (c .before .before .loop-test .taken))
 
-few : (c : tie.After-entered Inv-loop μ-loop) → c .before .before .before .loop .k < 8192
+few : (c : tie.After-entered Inv-loop μ-loop) → c .before .before .before .loop .k < mostRoads
 unfolding net
-few c = omega (arith, c .before .before .loop-test .taken, c .before .before .before .before .before .before .pre .few)
+few c =
+    let start = c .before .before .before .before .before .before in
+    omega (arith, c .before .before .loop-test .taken, start .pre .few)
 
-long : (c : tie.After-entered Inv-loop μ-loop) → length (c .before .before .before .loop .chains) ≡ 10240
+long : (c : tie.After-entered Inv-loop μ-loop) → length (c .before .before .before .loop .chains) ≡ mostJunctions + mostRoads
 long c = c .before .before .before .loop .inv .1 .long
-
-loop-holds : tie.Need-loop-holds Inv-loop μ-loop
-loop-holds c = (omega arith, chained-none _ _ (c .before .before .pre))
 
 loop-again : tie.Need-loop-again Inv-loop μ-loop
 loop-again c =
@@ -45,8 +50,10 @@ loop-again c =
 
 returns : tie.Need-returns Inv-loop μ-loop
 returns c =
-    let done : c .before .loop .k ≡ roadCount (c .before .before .before .before .args .roads .now) = omega (arith, c .before .loop .inv .0, c .loop-test .left) in
-    rw done at (c .before .loop .inv .1)
+    let turn = c .before in
+    let a = turn .before .before .before .args in
+    let done : turn .loop .k ≡ roadCount (a .roads .now) = omega (arith, turn .loop .inv .0, c .loop-test .left) in
+    rw done at (turn .loop .inv .1)
 
 pub chain-spec : {M : Type 1} → statement M
 chain-spec =
@@ -54,7 +61,7 @@ chain-spec =
     (tie.spec
     Inv-loop
     μ-loop
-    loop-holds
+    (λ c. (omega arith, chained-none _ _ (c .before .before .pre)))
     (λ c κs. c .loop-test .taken)
     (λ c κs. search needs)
     (λ c. omega (arith, within c))

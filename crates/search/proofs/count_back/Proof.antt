@@ -19,28 +19,40 @@ abbrev μ-loop : tie.MeasureT-loop
 μ-loop roads reading ways source target v₀ count₀ v count = length ways - count
 
 -- the trail goes on from v
-more : (c : tie.In-loop Inv-loop μ-loop) → let a = c .before .before .before .before .args in Further (net (a .reading) (a .roads .now) .roads) (entry (a .ways .now)) (length (a .ways .now)) (a .source) (c .before .loop .v) (c .before .loop .inv .walked .behind) (c .before .loop .inv .by)
+more : (c : tie.In-loop Inv-loop μ-loop) →
+    let turn = c .before in
+    let a = turn .before .before .before .args in
+    Further (net (a .reading) (a .roads .now) .roads) (entry (a .ways .now)) (length (a .ways .now)) (a .source) (turn .loop .v)
+    (turn .loop .inv .walked .behind) (turn .loop .inv .by)
 more c = further (c .before .loop .inv .walked .trail) (c .loop-test .taken)
+
+-- the way of v is a road
+is-road : (c : tie.In-loop Inv-loop μ-loop) →
+    let turn = c .before in
+    let a = turn .before .before .before .args in
+    entry (a .ways .now) (turn .loop .v) < roadCount (a .roads .now)
+is-road c =
+    let a = c .before .before .before .before .args in
+    omega (arith, more c .road, count-is (a .reading) (a .roads .now))
+
+left-of : (c : tie.After-entered Inv-loop μ-loop) →
+    let turn = c .before .before .before .before in
+    let a = turn .before .before .before .args in
+    turn .loop .count < length (a .ways .now)
+left-of c =
+    let l = c .before .before .before .before .loop .inv in
+    omega (arith, l .few, l .walked .count-is, trail-le (more (c .before .before .before) .rest))
 
 loop-holds : tie.Need-loop-holds Inv-loop μ-loop
 loop-holds c =
     let p = c .before .before .pre in
     record { by = p .by; whole = p .trail; few = p .few; walked = walked-none (p .trail) }
 
--- the way of v is a road
-is-road : (c : tie.In-loop Inv-loop μ-loop) → let a = c .before .before .before .before .args in entry (a .ways .now) (c .before .loop .v) < roadCount (a .roads .now)
-is-road c =
-    let a = c .before .before .before .before .args in
-    omega (arith, more c .road, count-is (a .reading) (a .roads .now))
-
-left-of : (c : tie.After-entered Inv-loop μ-loop) → let a = c .before .before .before .before .before .before .before .args in c .before .before .before .before .loop .count < length (a .ways .now)
-left-of c =
-    let l = c .before .before .before .before .loop .inv in
-    omega (arith, l .few, l .walked .count-is, trail-le (more (c .before .before .before) .rest))
-
 loop-again : tie.Need-loop-again Inv-loop μ-loop
 loop-again c =
-    count-next (c .before .before .before .before .loop .inv) (c .before .before .before .loop-test .taken) (tail-at _ _ _ _ _ (c .entered .ensures) (c .before .road-at .ensures))
+    let tested = c .before .before .before in
+    count-next (tested .before .loop .inv) (tested .loop-test .taken)
+    (tail-at _ _ _ _ _ (c .entered .ensures) (c .before .road-at .ensures))
 
 pub count-back-spec : {M : Type 1} → statement M
 count-back-spec =

@@ -1,4 +1,5 @@
--- `search::find` meets its contract. Assumes nothing.
+-- `search::find` meets its contract. The lists are all 0 at first; of the lists that `explore` leaves, the sixth are the
+-- labels and the seventh the ways. Assumes nothing.
 use native.Mathlib.Omega.{arith}
 use borrow.Author.Needs.{needs}
 use Rattle.search.proofs.Finding.{chain-asks, explore-asks, finds-nowhere, trailed, write-asks, finds-route}
@@ -9,29 +10,50 @@ chain-requires : tie.Need-chain-requires
 chain-requires c κs = chain-asks _ _ _ _ _ (c .before .before .before .before .pre)
 
 explore-requires : tie.Need-explore-requires
-explore-requires c κs = explore-asks _ _ _ _ _ (c .before .before .before .before .before .before .before .before .before .before .pre) _ (c .before .before .before .before .before .chain .ensures)
+explore-requires c κs =
+    let chained = c .before .before .before .before .before in
+    let start = chained .before .before .before .before .before in
+    explore-asks _ _ _ _ _ (start .pre) _ (chained .chain .ensures)
 
 returns : tie.Need-returns
 returns c =
-    let x = c .before .before .before .before in
-    finds-nowhere _ _ _ _ _ (c .before .before .before .before .before .before .before .before .before .before .before .before .before .before .before .pre) (x .explore .last .1 .1 .1 .1 .1 .0) (x .explore .last .1 .1 .1 .1 .1 .1 .0) (x .explore .ensures) (c .if1 .taken)
+    let explored = c .before .before .before .before in
+    let start = explored .before .before .before .before .before .before .before .before .before .before .before in
+    let x = explored .explore in
+    let labels = x .last .1 .1 .1 .1 .1 .0 in
+    let ways = x .last .1 .1 .1 .1 .1 .1 .0 in
+    finds-nowhere _ _ _ _ _ (start .pre) labels ways (x .ensures) (c .if1 .taken)
 
 count-back-requires : tie.Need-count-back-requires
 count-back-requires c κs =
-    let x = c .before .before .before .before .before in
-    trailed _ _ _ _ _ (c .before .before .before .before .before .before .before .before .before .before .before .before .before .before .before .before .pre) (x .explore .last .1 .1 .1 .1 .1 .0) (x .explore .last .1 .1 .1 .1 .1 .1 .0) (x .explore .ensures) (x .explore .kept .1 .1 .1 .1 .1 .1 .0) (omega (arith, c .before .if1 .left))
+    let explored = c .before .before .before .before .before in
+    let start = explored .before .before .before .before .before .before .before .before .before .before .before in
+    let x = explored .explore in
+    let labels = x .last .1 .1 .1 .1 .1 .0 in
+    let ways = x .last .1 .1 .1 .1 .1 .1 .0 in
+    trailed _ _ _ _ _ (start .pre) labels ways (x .ensures) (x .kept .1 .1 .1 .1 .1 .1 .0) (omega (arith, c .before .if1 .left))
 
 write-back-requires : tie.Need-write-back-requires
 write-back-requires c κs =
-    let x = c .before .before .before .before .before .before .before .before in
-    write-asks _ _ _ _ _ (c .before .before .before .before .before .before .before .before .before .before .before .before .before .before .before .before .before .before .before .pre) (x .explore .last .1 .1 .1 .1 .1 .0) (x .explore .last .1 .1 .1 .1 .1 .1 .0) (x .explore .ensures) (x .explore .kept .1 .1 .1 .1 .1 .1 .0) (omega (arith, c .before .before .before .before .if1 .left))
-    _ (c .before .before .count-back .ensures)
+    let counted = c .before .before in
+    let explored = counted .before .before .before .before .before .before in
+    let start = explored .before .before .before .before .before .before .before .before .before .before .before in
+    let x = explored .explore in
+    let labels = x .last .1 .1 .1 .1 .1 .0 in
+    let ways = x .last .1 .1 .1 .1 .1 .1 .0 in
+    write-asks _ _ _ _ _ (start .pre) labels ways (x .ensures) (x .kept .1 .1 .1 .1 .1 .1 .0) (omega (arith, counted .before .before .if1 .left))
+    _ (counted .count-back .ensures)
 
 returns-2 : tie.Need-returns-2
 returns-2 c =
-    let x = c .before .before .before .before .before .before .before .before .before .before .before in
-    finds-route _ _ _ _ _ (c .before .before .before .before .before .before .before .before .before .before .before .before .before .before .before .before .before .before .before .before .before .before .pre) (x .explore .last .1 .1 .1 .1 .1 .0) (x .explore .last .1 .1 .1 .1 .1 .1 .0) (x .explore .ensures) (x .explore .kept .1 .1 .1 .1 .1 .1 .0) (omega (arith, c .before .before .before .before .before .before .before .if1 .left))
-    _ _ (c .before .before .before .before .before .count-back .ensures) (c .before .before .write-back .ensures)
+    let counted = c .before .before .before .before .before in
+    let explored = counted .before .before .before .before .before .before in
+    let start = explored .before .before .before .before .before .before .before .before .before .before .before in
+    let x = explored .explore in
+    let labels = x .last .1 .1 .1 .1 .1 .0 in
+    let ways = x .last .1 .1 .1 .1 .1 .1 .0 in
+    finds-route _ _ _ _ _ (start .pre) labels ways (x .ensures) (x .kept .1 .1 .1 .1 .1 .1 .0) (omega (arith, counted .before .before .if1 .left))
+    _ _ (counted .count-back .ensures) (c .before .before .write-back .ensures)
 
 pub find-spec : {M : Type 1} → statement M
 find-spec =

@@ -6,26 +6,37 @@ use Rattle.search.proofs.relax.Tie as tie
 
 step-requires : tie.Need-step-requires
 step-requires c κs =
-    let start = c .before .before .before .before .before .before .before in
-    step-asks _ _ _ _ _ _ _ _ _ (start .pre) _ _ (c .before .road-at .ensures) (c .left .ensures)
+    let road = c .before in
+    let start = road .before .before .before .before .before .before in
+    step-asks _ _ _ _ _ _ _ _ _ (start .pre) _ _ (road .road-at .ensures) (c .left .ensures)
 
 key-requires : tie.Need-key-requires
 key-requires c κs =
-    let start = c .before .before .before .before .before .before .before .before in
-    key-asks _ _ _ _ _ _ _ _ _ (start .pre) _ _ (c .before .before .road-at .ensures) (c .before .left .ensures)
+    let ends = c .before in
+    let road = ends .before in
+    let start = road .before .before .before .before .before .before in
+    key-asks _ _ _ _ _ _ _ _ _ (start .pre) _ _ (road .road-at .ensures) (ends .left .ensures)
 
 take-requires : tie.Need-take-requires
 take-requires c κs =
-    let start = c .before .before .before .before .before .before .before .before .before .before .before .before in
-    offer-asks _ _ _ _ _ _ _ _ _ (start .pre) _ _ (c .before .before .before .before .before .before .road-at .ensures) (c .before .before .before .before .before .left .ensures) _ _
-    (c .before .before .before .before .step .ensures) (c .before .before .before .key .ensures)
+    let keyed = c .before .before .before in
+    let stepped = keyed .before in
+    let ends = stepped .before in
+    let road = ends .before in
+    let start = road .before .before .before .before .before .before in
+    offer-asks _ _ _ _ _ _ _ _ _ (start .pre) _ _ (road .road-at .ensures) (ends .left .ensures) _ _
+    (stepped .step .ensures) (keyed .key .ensures)
 
 returns : tie.Need-returns
 returns c =
     let took = c .before .before .before .before .before .before in
-    let start = c .before .before .before .before .before .before .before .before .before .before .before .before .before .before .before .before .before .before .before in
-    relax-keeps _ _ _ _ _ _ _ _ _ (start .pre) _ _ (took .before .before .before .before .before .before .before .road-at .ensures) (took .before .before .before .before .before .before .left .ensures) _ _
-    (took .before .before .before .before .before .step .ensures) (took .before .before .before .before .key .ensures) _ _ _ _ (took .take .ensures)
+    let keyed = took .before .before .before .before in
+    let stepped = keyed .before in
+    let ends = stepped .before in
+    let road = ends .before in
+    let start = road .before .before .before .before .before .before in
+    relax-keeps _ _ _ _ _ _ _ _ _ (start .pre) _ _ (road .road-at .ensures) (ends .left .ensures) _ _
+    (stepped .step .ensures) (keyed .key .ensures) _ _ _ _ (took .take .ensures)
 
 pub relax-spec : {M : Type 1} → statement M
 relax-spec =

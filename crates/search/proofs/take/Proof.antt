@@ -10,16 +10,17 @@ raise-requires : tie.Need-raise-requires
 raise-requires c κs =
     let start = c .before .before .before .before .before .before .before .before .before in
     let a = start .args in
-    raises (a .labels .now) (a .ways .now) (a .queue .now) (a .top) (a .v) (a .offer)
-    (ltb (entry (a .labels .now) (a .v)) (a .offer .label)) (start .pre) (c .better-key .ensures)
+    raises _ _ _ _ _ _ (ltb (entry (a .labels .now) (a .v)) (a .offer .label)) (start .pre) (c .better-key .ensures)
 
 returns : tie.Need-returns
 returns c =
     let raised = c .before .before in
-    let start = c .before .before .before .before .before .before .before .before .before .before .before .before in
-    let a = start .args in
-    offered (a .labels .now) (a .ways .now) (a .queue .now) (a .top) (a .v) (a .offer) (start .pre) _ _ _ _ _
-    (raised .raise .ensures) (c .before .before .before .before .before .before .before .better-label .ensures) (c .before .before .before .before .before .better-way .ensures) (c .before .before .before .better-key .ensures)
+    let keyed = raised .before in
+    let way = keyed .before .before in
+    let labelled = way .before .before in
+    let start = labelled .before .before .before .before .before in
+    offered _ _ _ _ _ _ (start .pre) _ _ _ _ _ (raised .raise .ensures) (labelled .better-label .ensures)
+    (way .better-way .ensures) (keyed .better-key .ensures)
 
 pub take-spec : {M : Type 1} → statement M
 take-spec =

@@ -20,7 +20,11 @@ abbrev μ-loop : tie.MeasureT-loop
 μ-loop roads reading ways source target count list₀ v₀ i₀ list v i = i
 
 -- the trail goes on from v
-more : (c : tie.In-loop Inv-loop μ-loop) → let a = c .before .before .before .before .before .args in Further (net (a .reading) (a .roads .now) .roads) (entry (a .ways .now)) (length (a .ways .now)) (a .source) (c .before .loop .v) (c .before .loop .inv .writing .walked .behind) (c .before .loop .inv .by)
+more : (c : tie.In-loop Inv-loop μ-loop) →
+    let turn = c .before in
+    let a = turn .before .before .before .before .args in
+    Further (net (a .reading) (a .roads .now) .roads) (entry (a .ways .now)) (length (a .ways .now)) (a .source) (turn .loop .v)
+    (turn .loop .inv .writing .walked .behind) (turn .loop .inv .by)
 more c = further (c .before .loop .inv .writing .walked .trail) (c .loop-test .taken)
 
 some : (c : tie.In-loop Inv-loop μ-loop) → 0 < c .before .loop .i
@@ -32,14 +36,19 @@ room c =
     omega (arith, some c, l .fits, l .long, l .writing .low)
 
 -- the way of v is a road
-is-road : (c : tie.In-loop Inv-loop μ-loop) → let a = c .before .before .before .before .before .args in entry (a .ways .now) (c .before .loop .v) < roadCount (a .roads .now)
+is-road : (c : tie.In-loop Inv-loop μ-loop) →
+    let turn = c .before in
+    let a = turn .before .before .before .before .args in
+    entry (a .ways .now) (turn .loop .v) < roadCount (a .roads .now)
 is-road c =
     let a = c .before .before .before .before .before .args in
     omega (arith, more c .road, count-is (a .reading) (a .roads .now))
 
 loop-again : tie.Need-loop-again Inv-loop μ-loop
 loop-again c =
-    write-next (c .before .before .before .before .loop .inv) (c .before .before .before .loop-test .taken) (tail-at _ _ _ _ _ (c .entered .ensures) (c .before .road-at .ensures))
+    let tested = c .before .before .before in
+    write-next (tested .before .loop .inv) (tested .loop-test .taken)
+    (tail-at _ _ _ _ _ (c .entered .ensures) (c .before .road-at .ensures))
 
 pub write-back-spec : {M : Type 1} → statement M
 write-back-spec =
