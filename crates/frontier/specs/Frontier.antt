@@ -1,5 +1,5 @@
 -- The queue of a search, as a tree in one list: entry i is the greatest of the group of eight i + 1, for three levels, and then
--- come the keys. It may have any whole number of groups; past the end every entry is 0.
+-- come the keys. It may have any whole number of groups; past the end every entry is 0. No entry's promise cites this file.
 use mathlib.Core.Path.{_≡_}
 use mathlib.Core.List.{List}
 use mathlib.Core.Logic.{_⊎_, _≢_}

@@ -1,4 +1,5 @@
--- Labels: a label is an amount plus one, and 0 is none. A road's step takes the label at its tail to that at its head.
+-- Labels: a label is an amount plus one, and 0 is none. A road's step takes the label at its tail to that at its head. No
+-- entry's promise cites this file.
 use mathlib.Core.Path.{_≡_}
 use mathlib.Core.List.{List, [], _∷_}
 use Prim.Native.Nat.{ℕ, _+_, _≤_, _<_}
