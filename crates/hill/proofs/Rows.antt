@@ -99,28 +99,47 @@ profile-row {m} {s} {ks} {p} e f n z t =
 
 -- ---- the table
 
-infixr 4 _and_
-_and_ : {A B : Type 0} → A → B → A × B
-_and_ a b = (a, b)
-
 -- row by row in the table's order. What is worked out: the tests, the drive by the walk named, and that the other walk falls
 -- short
 pub table-holds : TableHolds
 unfolding driveAll drive driven driveFault profileFault firstFrom recordFault placeFault profileOf followedBy oneRoad
-table-holds =
-    best-row (better to-3 hill-3 refl refl tt) refl
-    and best-row (better to-3 hill-3 refl refl tt) refl
-    and neither to-3 refl refl refl
-    and best-row (better to-2 hill-2 refl refl (omega arith)) refl
-    and best-row (better to-2-flat flat-2 refl refl tt) refl
-    and best-row (better to-2-flat flat-2 refl refl tt) refl
-    and neither to-2 refl refl refl
-    and best-row (record { cleared = refl; arrives = record { walk = stay; drives = refl }; others = only-stays }) refl
-    and best-row (better to-3 hill-3 refl refl tt) refl
-    and neither to-3 refl refl refl
-    and drive-row refl refl refl refl
-    and profile-row refl refl refl refl refl
-    and tt
+table-holds = (
+  best-row (better to-3 hill-3 refl refl tt) refl,
+  (
+    best-row (better to-3 hill-3 refl refl tt) refl,
+    (
+      neither to-3 refl refl refl,
+      (
+        best-row (better to-2 hill-2 refl refl (omega arith)) refl,
+        (
+          best-row (better to-2-flat flat-2 refl refl tt) refl,
+          (
+            best-row (better to-2-flat flat-2 refl refl tt) refl,
+            (
+              neither to-2 refl refl refl,
+              (
+                best-row (record { cleared = refl; arrives = record { walk = stay; drives = refl }; others = only-stays }) refl,
+                (
+                  best-row (better to-3 hill-3 refl refl tt) refl,
+                  (
+                    neither to-3 refl refl refl,
+                    (
+                      drive-row refl refl refl refl,
+                      (
+                        profile-row refl refl refl refl refl,
+                        tt,
+                      ),
+                    ),
+                  ),
+                ),
+              ),
+            ),
+          ),
+        ),
+      ),
+    ),
+  ),
+)
 
 -- ---- one unit more
 

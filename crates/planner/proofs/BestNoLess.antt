@@ -4,7 +4,6 @@ use mathlib.Core.Bool.{true}
 use mathlib.Core.List.{List, [], _∷_}
 use mathlib.Core.Logic.{_⊎_, inl, inr}
 use Prim.Native.Nat.{ℕ, _≤_}
-use native.Mathlib.Nat.{le-trans}
 use native.Mathlib.Omega.{arith}
 use lib.Signed.{leZ}
 use Rattle.numbers.proofs.Diff.{draw-mono}
@@ -47,7 +46,7 @@ second : {ns rs list ys ks : List ℕ} {q : PlanQuestion} {b : PlanNumbers} {w :
 second (Plans.refused r e) (inl n) a h = absurd (omega (arith, number-pos r))
 second {ns} {rs} {list} {q} (Plans.refused r e) (inr n) a h = absurd (omega (arith, refused-early ns rs q list e))
 second {ks} {w} (Plans.none e no-walk) n a h = absurd (no-walk ks w a)
-second {ks} {w} (Plans.route js u e g o most) n a h = (refl, le-trans h (most ks w a))
+second {ks} {w} (Plans.route js u e g o most) n a h = (refl, omega (arith, most ks w a))
 
 sets-out : (q q' : PlanQuestion) → leZ (q .battery) (q' .battery) ≡ true → leZ (q .start) (q' .start) ≡ true
     → Above (planVan q) (planVan q')

@@ -90,6 +90,11 @@ profile-cleared ns rs q entries e =
 
 -- ---- best route: 1 to 9 have passed
 
+-- the tests as the code makes them
+pub plan-fault-is : (ns rs : List ℕ) (q : PlanQuestion) (list : List ℕ) → planFault ns rs q list ≡ firstOf (beforePlan ns rs q (length list))
+unfolding planFault
+plan-fault-is ns rs q list = refl
+
 pub record PlanCleared (ns rs : List ℕ) (q : PlanQuestion) (list : List ℕ) : Type 0 where
   pub few : junctions ns ≤ mostJunctions
   pub few-roads : roadCount rs ≤ mostRoads
@@ -102,9 +107,8 @@ pub record PlanCleared (ns rs : List ℕ) (q : PlanQuestion) (list : List ℕ) :
 
 pub plan-cleared : (ns rs : List ℕ) (q : PlanQuestion) (list : List ℕ) → planFault ns rs q list ≡ Passed
     → PlanCleared ns rs q list
-unfolding planFault
 plan-cleared ns rs q list e =
-    let a = each-passed (beforePlan ns rs q (length list)) e in
+    let a = each-passed (beforePlan ns rs q (length list)) (sym (plan-fault-is ns rs q list) ∙ e) in
     let b = a .1 .1 in
     let c = b .1 .1 in
     let n = both-true (ltb 0 (length ns)) _ (unless-passed (junctionFile ns) JunctionFile (a .0)) .1 in
@@ -125,8 +129,3 @@ plan-cleared ns rs q list e =
       room = omega arith;
       records-ok = c .1 .1 .0;
     }
-
--- the tests as the code makes them
-pub plan-fault-is : (ns rs : List ℕ) (q : PlanQuestion) (list : List ℕ) → planFault ns rs q list ≡ firstOf (beforePlan ns rs q (length list))
-unfolding planFault
-plan-fault-is ns rs q list = refl
