@@ -13,13 +13,16 @@ use mir.Syntax.{w64}
 use mir.Val.{toZ, ofZ}
 use Rattle.numbers.proofs.Bits.{back64}
 use Rattle.numbers.specs.Signed.{draw}
+use Rattle.battery.specs.Drive.{fresh}
 use Rattle.battery.specs.Rule.{mostBattery}
 use Rattle.network.proofs.Faults.{each-passed, unless-passed, both-true}
+use Rattle.network.proofs.Records.{all-ranged}
 use Rattle.network.specs.Check.{firstOf, recordsFault}
 use Rattle.network.specs.Files.{junctionBytes, roadBytes, junctions, roadCount, mostJunctions, mostRoads, junctionFile, roadFile, isJunction}
 use Rattle.network.specs.declared.Checked.the-variants.{Passed}
 use Rattle.network.specs.declared.Refusal.the-variants.{JunctionFile, RoadFile, Battery, Start, NoJunction, ShortList, LongRoute}
 use Rattle.routes.specs.Places.{mostEntries}
+use Rattle.routes.specs.Steps.{DriveAsks}
 use Rattle.planner.specs.Before.{Whole, beforePlan, beforeDrive, beforeProfile}
 use Rattle.planner.specs.Order.{isBattery, isStart, hasRoom, planFault}
 use Rattle.planner.specs.declared.PlanQuestion.{PlanQuestion}
@@ -61,6 +64,23 @@ pub record Cleared (ns rs : List ℕ) (m : ℤ) (entries : ℕ) : Type 0 where
   pub battery-ok : isBattery m ≡ true
   pub entries-le : entries ≤ mostEntries
   pub records-ok : recordsFault ns rs ≡ Passed
+
+-- what the drive of such a route asks for
+pub sets-out : (ns rs es : List ℕ) (m b : ℤ) → Cleared ns rs m (length es) → isStart m b ≡ true
+    → DriveAsks rs es (fresh (draw m) (draw b))
+sets-out ns rs es m b c s =
+    record {
+      roads-ranged = record { ranged = all-ranged ns rs (c .records-ok) };
+      entries-le = c .entries-le;
+      bounded =
+          record {
+            battery-le = battery-whole m (c .battery-ok) .draw-le;
+            charge-le = start-whole m b (c .battery-ok) s .1;
+            drawn-le = omega arith;
+            recovered-le = omega arith;
+            spilled-le = omega arith;
+          };
+    }
 
 pub drive-cleared : (ns rs : List ℕ) (q : DriveQuestion) (entries : ℕ) → firstOf (beforeDrive ns rs q entries) ≡ Passed
     → Cleared ns rs (q .battery) entries × (isStart (q .battery) (q .start) ≡ true)

@@ -2,7 +2,6 @@
 use mathlib.Core.Path.{_≡_, ap, _∙_}
 use mathlib.Core.List.{List, [], _∷_}
 use Prim.Native.Nat.{ℕ}
-use native.Mathlib.Omega.{arith}
 use lib.ListN.{length}
 use Rattle.numbers.specs.Signed.{draw}
 use Rattle.network.proofs.Faults.{first-end, first-append}
@@ -23,7 +22,7 @@ use Rattle.planner.specs.Order.{vanOf, driveFault, profileFault}
 use Rattle.planner.specs.Promises.{Drives, Profiles}
 use Rattle.planner.specs.declared.DriveQuestion.{DriveQuestion}
 use Rattle.planner.specs.declared.ProfileQuestion.{ProfileQuestion}
-use Rattle.planner.proofs.Cleared.{battery-whole, start-whole, drive-cleared, profile-cleared}
+use Rattle.planner.proofs.Cleared.{battery-whole, sets-out, drive-cleared, profile-cleared}
 
 module _ (ns rs : List ℕ) (q : DriveQuestion) (es : List ℕ) where
   pub drive-fault-is : {x : Checked} → firstOf (beforeDrive ns rs q (length es)) ≡ x
@@ -38,22 +37,7 @@ module _ (ns rs : List ℕ) (q : DriveQuestion) (es : List ℕ) where
   drive-refused {r} e = Drives.refused r (drive-fault-is e)
 
   pub drive-asks : firstOf (beforeDrive ns rs q (length es)) ≡ checked.Passed → DriveAsks rs es (vanOf q)
-  drive-asks e =
-      let c = drive-cleared ns rs q (length es) e in
-      let m = battery-whole (q .battery) (c .0 .battery-ok) in
-      let b = start-whole (q .battery) (q .start) (c .0 .battery-ok) (c .1) in
-      record {
-        roads-ranged = record { ranged = all-ranged ns rs (c .0 .records-ok) };
-        entries-le = c .0 .entries-le;
-        bounded =
-            record {
-              battery-le = m .draw-le;
-              charge-le = b .1;
-              drawn-le = omega arith;
-              recovered-le = omega arith;
-              spilled-le = omega arith;
-            };
-      }
+  drive-asks e = let c = drive-cleared ns rs q (length es) e in sets-out ns rs es (q .battery) (q .start) (c .0) (c .1)
 
   pub drive-kept : firstOf (beforeDrive ns rs q (length es)) ≡ checked.Passed → (d : Driven) → DriveKeeps rs es (q .source) (vanOf q) d
       → Drives ns rs q es (driveNumbers d)

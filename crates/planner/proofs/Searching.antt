@@ -10,7 +10,6 @@ use Rattle.battery.specs.Drive.{driveAll}
 use Rattle.battery.specs.declared.Drove.{Drove}
 use Rattle.battery.specs.declared.Drove.the-variants.{On, TooLow}
 use Rattle.battery.specs.declared.Van.{Van}
-use Rattle.network.proofs.Records.{all-ranged}
 use Rattle.network.specs.Files.{junctions}
 use Rattle.network.specs.Walks.{Once, roadsOf}
 use Rattle.network.specs.declared.Checked.the-variants as checked
@@ -32,7 +31,7 @@ use Rattle.planner.specs.Promises.{Arrives, Most, Plans}
 use Rattle.planner.specs.declared.Planned.{Planned}
 use Rattle.planner.specs.declared.Planned.the-variants as planned
 use Rattle.planner.specs.declared.PlanQuestion.{PlanQuestion}
-use Rattle.planner.proofs.Cleared.{battery-whole, start-whole, PlanCleared, plan-cleared}
+use Rattle.planner.proofs.Cleared.{battery-whole, start-whole, sets-out, PlanCleared, plan-cleared}
 
 -- the trip that is searched: the label is the charge of the van that sets out, plus one
 abbrev pub tripFor : PlanQuestion → Van → Trip
@@ -139,19 +138,9 @@ module _ (ns rs : List ℕ) (q : PlanQuestion) (list : List ℕ) (passed : planF
   asks : DriveAsks rs (w .by) (planVan q)
   asks =
       let c = plan-cleared ns rs q list passed in
-      let s = start-whole (q .battery) (q .start) (c .battery-ok) (c .start-ok) in
-      record {
-        roads-ranged = record { ranged = all-ranged ns rs (c .records-ok) };
-        entries-le = omega (arith, w .few, c .few);
-        bounded =
-            record {
-              battery-le = battery-whole (q .battery) (c .battery-ok) .draw-le;
-              charge-le = s .1;
-              drawn-le = omega arith;
-              recovered-le = omega arith;
-              spilled-le = omega arith;
-            };
-      }
+      sets-out ns rs (w .by) (q .battery) (q .start)
+      (record { battery-ok = c .battery-ok; entries-le = omega (arith, w .few, c .few); records-ok = c .records-ok })
+      (c .start-ok)
 
   pub found-asks : FoundAsks rs (take count list') (q .source) (planVan q)
   found-asks =

@@ -14,6 +14,14 @@ settled? L K v = go (decLt 0 (L v)) (ℕ-discrete (K v) 0)
     go (yes p) (no q) = no (λ s. q (s .taken))
     go (no p) q = no (λ s. p (s .labelled))
 
+-- a junction with a label that is not settled waits
+pub unsettled-waits : (L K : ℕ → ℕ) (v : ℕ) → 0 < L v → (Settled L K v → ⊥) → 0 < K v
+unsettled-waits L K v h t = go (ℕ-discrete (K v) 0)
+  where
+    go : Dec (K v ≡ 0) → 0 < K v
+    go (yes z) = absurd (t (record { labelled = h; taken = z }))
+    go (no z) = omega arith
+
 due-none : (l k : ℕ) → 0 < l → k ≡ 0 → due l k ≡ 0
 due-none zero k p q = absurd (omega arith)
 due-none (suc l) zero p q = refl

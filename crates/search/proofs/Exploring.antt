@@ -1,26 +1,23 @@
--- The whole search: its beginning, one turn, and its two ends. Assumes nothing.
+-- A search on its way: one turn, and the two ends. Assumes nothing.
 use mathlib.Core.Path.{_≡_, refl, sym, ap, _∙_, subst}
 use mathlib.Core.List.{List}
 use mathlib.Core.Logic.{_⊎_, inl, inr, _≢_}
-use Prim.Native.Nat.{ℕ, suc, _+_, _/_, _%_, _≤_, _<_, max}
+use Prim.Native.Nat.{ℕ, suc, _%_, _<_}
 use native.Mathlib.Decide.{ℕ-discrete}
 use native.Mathlib.Omega.{arith}
-use lib.ListN.{length, set, length-set}
-use Rattle.frontier.proofs.Empty.{empty, empty-top}
-use Rattle.frontier.proofs.Stores.{put-of}
-use Rattle.frontier.specs.Frontier.{places, keysFrom, entry, keyAt, Put, Raises, Removes, Now}
+use Rattle.frontier.specs.Frontier.{places, entry, keyAt, Put, Removes, Now}
 use Rattle.network.specs.Files.{junctions}
 use Rattle.walks.specs.Label.{Best}
 use Rattle.search.specs.Reading.{psi, net}
 use Rattle.search.specs.State.{unsettled, Busy, Idle, Next}
-use Rattle.search.specs.Steps.{waiting, packed, KeyAsks, Underway, SpreadAsks, SpreadKeeps, ExploreAsks, Explored}
+use Rattle.search.specs.Steps.{waiting, Underway, SpreadAsks, SpreadKeeps, ExploreAsks, Explored}
 use Rattle.search.specs.declared.Reading.{Reading}
 use Rattle.search.specs.declared.Trip.{Trip}
 use Rattle.search.proofs.Finishing.{best-t, route-t, best-all, route-all}
 use Rattle.search.proofs.Laws.{laws, count-is}
 use Rattle.search.proofs.Relaxing.{rests}
-use Rattle.search.proofs.Roads.{packed-tells}
-use Rattle.search.proofs.Settling.{begin, settle}
+use Rattle.search.proofs.Packing.{put-waiting}
+use Rattle.search.proofs.Settling.{settle}
 
 pub record ExploreLoop (rd : Reading) (ns rs : List ℕ) (trip : Trip) (labels ways queue : List ℕ) (top : ℕ) : Type 0 where
   pub underway : Underway rd labels ways queue top
@@ -33,75 +30,6 @@ left-over ns labels queue = unsettled (entry labels) (waiting queue) (junctions 
 
 module _ (rd : Reading) (ns rs chains : List ℕ) (trip : Trip) (labels₀ ways₀ queue₀ : List ℕ)
     (a : ExploreAsks rd ns rs chains trip labels₀ ways₀ queue₀) where
-  -- ---- the beginning
-
-  pub source-asks : KeyAsks ns (trip .source)
-  source-asks = record { within = a .source-in; few = a .readable .few }
-
-  whole : length queue₀ % 8 ≡ 0
-  whole = ap (λ (n : ℕ). n % 8) (a .sized .long-queue)
-
-  pub first-raises : (key : ℕ) → key ≡ packed (trip .label + psi rd ns (trip .source)) (trip .source) → Raises queue₀ 0 (trip .source) key
-  first-raises key e =
-      record {
-        frontier = empty queue₀ (a .no-key) (omega (arith, a .sized .long-queue)) whole;
-        best = empty-top queue₀ (a .no-key);
-        within = omega (arith, a .source-in, a .readable .few, a .sized .long-queue);
-        tells =
-            λ _. ap (λ (n : ℕ). n % places) e
-            ∙ packed-tells _ (trip .source) (omega (arith, a .source-in, a .readable .few));
-      }
-
-  module _ (key : ℕ) (key-is : key ≡ packed (trip .label + psi rd ns (trip .source)) (trip .source)) (queue : List ℕ) (top : ℕ)
-      (n : Now queue₀ (trip .source) (max (keyAt queue₀ (trip .source)) key) queue top) where
-    labels : List ℕ
-    labels = set labels₀ (trip .source) (trip .label)
-
-    put-label : Put (entry labels₀) (entry labels) (trip .source) (trip .label)
-    unfolding labels
-    put-label = put-of labels₀ (omega (arith, a .source-in, a .readable .few, a .sized .long-labels)) refl
-
-    first-key : keyAt queue (trip .source) ≡ key
-    first-key = omega (arith, n .put .here, a .no-key (keysFrom + trip .source))
-
-    put-key : Put (waiting queue₀) (waiting queue) (trip .source) (trip .label + psi rd ns (trip .source))
-    put-key =
-        record {
-          here = omega (arith, first-key, key-is, a .source-in, a .readable .few);
-          rest = λ i e. ap (λ (y : ℕ). y / places) (n .put .rest i e);
-        }
-
-    bounded : (v : ℕ) → Dec (v ≡ trip .source) → entry labels v ≤ rd .battery + 1
-    bounded v (yes e) = omega (arith, ap (entry labels) e, put-label .here, a .label-le)
-    bounded v (no e) = omega (arith, put-label .rest v e, a .no-label v)
-
-    real : (v : ℕ) → 0 < keyAt queue v → Dec (v ≡ trip .source) → 0 < waiting queue v
-    real v h (yes e) = omega (arith, ap (waiting queue) e, put-key .here, a .some)
-    real v h (no e) = absurd (omega (arith, n .put .rest v e, a .no-key (keysFrom + v)))
-
-    pub explore-start : ExploreLoop rd ns rs trip (set labels₀ (trip .source) (trip .label)) ways₀ queue top
-    unfolding labels
-    explore-start =
-        record {
-          underway =
-              record {
-                sized =
-                    record {
-                      long-labels = length-set labels₀ (trip .source) (trip .label) ∙ a .sized .long-labels;
-                      long-ways = a .sized .long-ways;
-                      long-queue = n .long ∙ a .sized .long-queue;
-                    };
-                queued = record { frontier = n .frontier; best = n .best };
-                bounded = λ v. bounded v (ℕ-discrete v (trip .source));
-                real = λ v h. real v h (ℕ-discrete v (trip .source));
-              };
-          turns = 0;
-          idle =
-              begin (net rd rs) (psi rd ns) (junctions ns) (trip .source) (trip .label) (entry labels₀) (entry ways₀) (waiting queue₀)
-              (entry labels) (waiting queue) (a .no-label) (λ v. ap (λ (y : ℕ). y / places) (a .no-key (keysFrom + v)))
-              put-label put-key (a .some) (a .source-in);
-        }
-
   -- ---- one turn
 
   module _ (labels ways queue : List ℕ) (top : ℕ) (i : ExploreLoop rd ns rs trip labels ways queue top) (some : top ≢ 0) where
@@ -135,11 +63,7 @@ module _ (rd : Reading) (ns rs chains : List ℕ) (trip : Trip) (labels₀ ways�
 
     module _ (queue₁ : List ℕ) (top₁ : ℕ) (n : Now queue (top % places) 0 queue₁ top₁) where
       put-none : Put (waiting queue) (waiting queue₁) (top % places) 0
-      put-none =
-          record {
-            here = ap (λ (y : ℕ). y / places) (n .put .here);
-            rest = λ j e. ap (λ (y : ℕ). y / places) (n .put .rest j e);
-          }
+      put-none = put-waiting queue queue₁ (n .put) refl
 
       settled : Busy (net rd rs) (psi rd ns) (junctions ns) (trip .source) (trip .label) (suc (i .turns)) (top % places)
           (net rd rs .roads .count) (entry labels) (entry ways) (waiting queue₁)

@@ -17,7 +17,7 @@ use Rattle.search.specs.declared.Found.the-variants.{Nowhere, Roads}
 use Rattle.search.specs.declared.Reading.{Reading}
 use Rattle.search.specs.declared.Trip.{Trip}
 use Rattle.search.proofs.Laws.{tails-in, count-is}
-use Rattle.search.proofs.Writing.{trail-wider}
+use Rattle.search.proofs.Trailing.{trail-wider}
 
 zeros : (n i : ℕ) → entry (replicate n 0) i ≡ 0
 zeros zero i = refl

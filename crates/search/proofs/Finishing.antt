@@ -11,7 +11,7 @@ use Rattle.walks.specs.Label.{Net, Laws, after, Best}
 use Rattle.walks.specs.Walk.{Walk}
 use Rattle.search.specs.State.{Settled, Kept, Busy, Idle}
 use Rattle.search.specs.Trails.{Route}
-use Rattle.search.proofs.Counting.{settled?}
+use Rattle.search.proofs.Counting.{settled?, unsettled-waits}
 use Rattle.search.proofs.Tracing.{traced}
 
 module _ (N : Net) (psi : ℕ → ℕ) (laws : Laws N psi) (n s l turns : ℕ) (L W K : ℕ → ℕ) where
@@ -31,12 +31,12 @@ module _ (N : Net) (psi : ℕ → ℕ) (laws : Laws N psi) (n s l turns : ℕ) (
     before? v (yes c) (no e) = yes (c, e)
     before? v (no c) e = no (λ d. c (d .0))
 
-    below : (v : ℕ) → ¬ Before v → 0 < L v → Dec (v ≡ t) → Dec (K v ≡ 0) → L v + psi v ≤ L t + psi t
+    below : (v : ℕ) → ¬ Before v → 0 < L v → Dec (v ≡ t) → L v + psi v ≤ L t + psi t
     unfolding Before
-    below v d h (yes e) z = omega (arith, ap L e, ap psi e)
-    below v d h (no e) (yes z) = absurd (d (record { labelled = h; taken = z }, e))
-    below v d h (no e) (no z) =
-        omega (arith, b .state .keyed v (omega arith), b .state .ordered t v (b .settled) (omega arith))
+    below v d h (yes e) = omega (arith, ap L e, ap psi e)
+    below v d h (no e) =
+        let k = unsettled-waits L K v h (λ c. d (c, e)) in
+        omega (arith, b .state .keyed v k, b .state .ordered t v (b .settled) k)
 
     front : Front N psi Before L t
     unfolding Before
@@ -44,7 +44,7 @@ module _ (N : Net) (psi : ℕ → ℕ) (laws : Laws N psi) (n s l turns : ℕ) (
         record {
           decided = λ v. before? v (settled? L K v) (ℕ-discrete v t);
           relaxed = λ k h d. b .relaxed k h (d .0) (λ e. absurd (d .1 e));
-          below = λ v d h. below v d h (ℕ-discrete v t) (ℕ-discrete (K v) 0);
+          below = λ v d h. below v d h (ℕ-discrete v t);
           open-t = λ d. d .1 refl;
         }
 

@@ -1,14 +1,20 @@
 pub mod Laws
 pub mod Forward
+mod StepForward
 mod Counting
+mod Puts
+mod Beginning
 mod Settling
 mod Relaxing
 mod Tracing
 mod Finishing
 mod Offering
+mod Packing
 mod Roads
 mod Linking
+mod Trailing
 mod Writing
 mod Spreading
 mod Exploring
+mod Starting
 mod Finding

@@ -7,7 +7,7 @@ use native.Mathlib.Omega.{arith}
 use Rattle.frontier.specs.Frontier.{Put}
 use Rattle.walks.specs.Label.{Net, Laws}
 use Rattle.search.specs.State.{Settled, due, Via, Kept, Busy, Idle}
-use Rattle.search.proofs.Counting.{settled?, due-some, unsettled-same}
+use Rattle.search.proofs.Counting.{settled?, unsettled-waits, due-some, unsettled-same}
 
 module _ (N : Net) (psi : ℕ → ℕ) (n s l turns u k : ℕ) (L W K : ℕ → ℕ) (b : Busy N psi n s l turns u (suc k) L W K)
     (here : N .roads .tail k ≡ u) where
@@ -63,31 +63,22 @@ module _ (N : Net) (psi : ℕ → ℕ) (n s l turns u k : ℕ) (L W K : ℕ → 
 
     -- the source is settled, since u is
     source : Settled L K s
-    source =
-        go (settled? L K s)
+    source = go (settled? L K s)
       where
         go : Dec (Settled L K s) → Settled L K s
         go (yes t) = t
         go (no t) =
-            let e = b .state .alone u (b .settled .labelled) (key-pos t) in
-            subst (λ (y : ℕ). Settled L K y) e (b .settled)
-          where
-            key-pos : (Settled L K s → ⊥) → 0 < K s
-            key-pos t = by (ℕ-discrete (K s) 0)
-              where
-                by : Dec (K s ≡ 0) → 0 < K s
-                by (yes z) = absurd (t (record { labelled = omega (arith, b .state .start, b .state .some); taken = z }))
-                by (no z) = omega arith
+            let k = unsettled-waits L K s (omega (arith, b .state .start, b .state .some)) t in
+            subst (λ (y : ℕ). Settled L K y) (b .state .alone u (b .settled .labelled) k) (b .settled)
+
+    pub keeps-u : L' u ≡ L u
+    keeps-u = p .rest u (other u (b .settled))
 
     same-due : (y : ℕ) → Dec (y ≡ v) → due (L' y) (K' y) ≡ due (L y) (K y)
     same-due y (no e) = λ i. due (p .rest y e i) (q .rest y e i)
     same-due y (yes e) =
         due-some (L' y) (K' y) (λ _. omega (arith, ap K' e, waiting))
-        ∙ sym (due-some (L y) (K y) (λ h. unsettled-key h (ℕ-discrete (K y) 0)))
-      where
-        unsettled-key : 0 < L y → Dec (K y ≡ 0) → 0 < K y
-        unsettled-key h (yes z) = absurd (other y (record { labelled = h; taken = z }) e)
-        unsettled-key h (no z) = omega arith
+        ∙ sym (due-some (L y) (K y) (λ h. unsettled-waits L K y h (λ t. other y t e)))
 
     inside : (y : ℕ) → 0 < L' y → Dec (y ≡ v) → y < n
     inside y h (yes e) = omega arith
@@ -112,13 +103,12 @@ module _ (N : Net) (psi : ℕ → ℕ) (n s l turns u k : ℕ) (L W K : ℕ → 
     via-v y e =
         let way : W' y ≡ k = ap W' e ∙ w .here in
         let tail : N .roads .tail (W' y) ≡ u = ap (N .roads .tail) way ∙ here in
-        let kept : L' u ≡ L u = p .rest u (other u (b .settled)) in
         record {
           road = omega arith;
           here = ap (N .roads .head) way ∙ there ∙ sym e;
           from = subst (λ (a : ℕ). Settled L' K' a) (sym tail) (stays u (b .settled));
           earlier = λ t. absurd (not-v y t e);
-          exact = (λ i. N .step (way i) (L' (tail i))) ∙ ap (N .step k) kept ∙ brings ∙ sym (ap L' e ∙ p .here);
+          exact = (λ i. N .step (way i) (L' (tail i))) ∙ ap (N .step k) keeps-u ∙ brings ∙ sym (ap L' e ∙ p .here);
         }
 
     via-other : (y : ℕ) → y ≢ v → Via N (b .state .rank) L W K y → Via N (b .state .rank) L' W' K' y
@@ -156,9 +146,6 @@ module _ (N : Net) (psi : ℕ → ℕ) (n s l turns u k : ℕ) (L W K : ℕ → 
         ap (N .step j) (p .rest _ (other _ t)) ∙ (λ i. N .step (e i) (L ((ap (N .roads .tail) e ∙ here) i))) ∙ brings in
         omega (arith, f, ap L' (ap (N .roads .head) e ∙ there), p .here)
 
-    pub keeps-u : L' u ≡ L u
-    keeps-u = p .rest u (other u (b .settled))
-
     pub take : Busy N psi n s l turns u k L' W' K'
     take =
         record {
@@ -178,9 +165,7 @@ module _ (N : Net) (psi : ℕ → ℕ) (n s l turns u k : ℕ) (L W K : ℕ → 
                 via = λ y h z. via y h z (ℕ-discrete y v);
               };
           settled = stays u (b .settled);
-          latest =
-              λ a t.
-              omega (arith, p .rest a (not-v a t), p .rest u (other u (b .settled)), b .latest a (was a t));
+          latest = λ a t. omega (arith, p .rest a (not-v a t), keeps-u, b .latest a (was a t));
           relaxed = λ j h t m. kept j h (was _ t) m (ℕ-discrete j k);
         }
 

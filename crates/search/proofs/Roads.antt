@@ -12,9 +12,7 @@ use Rattle.search.specs.Reading.{left, stepOf, psi, net}
 use Rattle.search.specs.Steps.{StepAsks, waiting, packed, KeyAsks, Change, passed, taken, OfferAsks, Offered, RelaxAsks, Relaxed, RelaxKeeps}
 use Rattle.search.specs.declared.Reading.{Reading}
 use Rattle.search.proofs.Laws.{step-le, heads-in}
-
-pub packed-tells : (key v : ℕ) → v < places → packed key v % places ≡ v
-packed-tells key v h = omega arith
+use Rattle.search.proofs.Packing.{packed-tells}
 
 module _ (rd : Reading) (ns rs : List ℕ) (k label : ℕ) (labels ways queue : List ℕ) (top : ℕ)
     (a : RelaxAsks rd ns rs k label labels ways queue top) (road : Road) (v : ℕ)

@@ -1,5 +1,5 @@
--- The state where a search begins, and when the junction with the greatest key is settled. Assumes nothing.
-use mathlib.Core.Path.{_≡_, refl, sym, ap, _∙_}
+-- The state when the junction u with the greatest key is settled. Assumes nothing.
+use mathlib.Core.Path.{_≡_, sym, ap, _∙_}
 use mathlib.Core.Logic.{_≢_}
 use Prim.Native.Nat.{ℕ, suc, _+_, _≤_, _<_}
 use native.Mathlib.Decide.{ℕ-discrete}
@@ -7,75 +7,8 @@ use native.Mathlib.Omega.{arith}
 use Rattle.frontier.specs.Frontier.{Put}
 use Rattle.walks.specs.Label.{Net}
 use Rattle.search.specs.State.{Settled, due, unsettled, Via, Kept, Busy, Idle, Next}
-use Rattle.search.proofs.Counting.{due-some, settled-due, unsettled-one, unsettled-all}
-
--- ---- a function changed at one place
-
-pickDec : {P : Type 0} → Dec P → ℕ → ℕ → ℕ
-pickDec (yes p) x y = x
-pickDec (no p) x y = y
-
-put : (ℕ → ℕ) → ℕ → ℕ → ℕ → ℕ
-put f a x i = pickDec (ℕ-discrete i a) x (f i)
-
-put-is : (f : ℕ → ℕ) (a x : ℕ) → Put f (put f a x) a x
-unfolding put pickDec
-put-is f a x = record { here = at-a (ℕ-discrete a a); rest = λ i h. at-i i h (ℕ-discrete i a) }
-  where
-    at-a : (d : Dec (a ≡ a)) → pickDec d x (f a) ≡ x
-    at-a (yes p) = refl
-    at-a (no p) = absurd (p refl)
-
-    at-i : (i : ℕ) → i ≢ a → (d : Dec (i ≡ a)) → pickDec d x (f i) ≡ f i
-    at-i i h (yes p) = absurd (h p)
-    at-i i h (no p) = refl
-
--- ---- the beginning: the source alone has a label, and waits
-
-module _ (N : Net) (psi : ℕ → ℕ) (n s l : ℕ) (L W K L' K' : ℕ → ℕ) (none : (v : ℕ) → L v ≡ 0) (empty : (v : ℕ) → K v ≡ 0)
-    (p : Put L L' s l) (q : Put K K' s (l + psi s)) (some : 0 < l) (within : s < n) where
-  only : (v : ℕ) → 0 < L' v → Dec (v ≡ s) → v ≡ s
-  only v h (yes e) = e
-  only v h (no e) = absurd (omega (arith, p .rest v e, none v))
-
-  only-key : (v : ℕ) → 0 < K' v → Dec (v ≡ s) → v ≡ s
-  only-key v h (yes e) = e
-  only-key v h (no e) = absurd (omega (arith, q .rest v e, empty v))
-
-  labelled : (v : ℕ) → 0 < L' v → v ≡ s
-  labelled v h = only v h (ℕ-discrete v s)
-
-  keyed : (v : ℕ) → 0 < K' v → v ≡ s
-  keyed v h = only-key v h (ℕ-discrete v s)
-
-  waits : (v : ℕ) → 0 < L' v → 0 < K' v
-  waits v h = omega (arith, ap K' (labelled v h), q .here)
-
-  unset : (v : ℕ) → Settled L' K' v → ⊥
-  unset v t = omega (arith, waits v (t .labelled), t .taken)
-
-  pub begin : Idle N psi n s l 0 L' W K'
-  begin =
-      record {
-        state =
-            record {
-              rank = λ v. 0;
-              rank-le = λ v. omega arith;
-              rank-pos = λ v t. absurd (unset v t);
-              counted = omega (arith, unsettled-all L' K' waits n);
-              inside = λ v h. omega (arith, labelled v h);
-              start = p .here;
-              some = some;
-              alone = λ v h k. labelled v h;
-              waits = λ v h. omega (arith, ap L' (keyed v h), p .here);
-              keyed = λ v h. omega (arith, ap K' (keyed v h), ap L' (keyed v h), ap psi (keyed v h), p .here, q .here);
-              ordered = λ u v t h. absurd (unset u t);
-              via = λ v h e. absurd (e (labelled v h));
-            };
-        relaxed = λ k h t. absurd (unset _ t);
-      }
-
--- ---- settling the junction u that is next
+use Rattle.search.proofs.Counting.{due-some, settled-due, unsettled-one}
+use Rattle.search.proofs.Puts.{put, put-is}
 
 module _ (N : Net) (psi : ℕ → ℕ) (n s l turns u : ℕ) (L W K K' : ℕ → ℕ) (i : Idle N psi n s l turns L W K) (x : Next K u)
     (q : Put K K' u 0) where

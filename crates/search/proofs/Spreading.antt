@@ -4,7 +4,7 @@ use mathlib.Core.List.{List}
 use Prim.Native.Nat.{ℕ, suc, _+_, _-_, _/_, _≤_, _<_, max}
 use native.Mathlib.Decide.{decLt}
 use native.Mathlib.Omega.{arith}
-use Rattle.frontier.specs.Frontier.{places, entry, keyAt, Put}
+use Rattle.frontier.specs.Frontier.{places, entry, keyAt}
 use Rattle.network.specs.Files.{junctions, roadCount}
 use Rattle.walks.specs.Label.{Net, Laws}
 use Rattle.search.specs.Chains.{previousOf, Link}
@@ -13,6 +13,7 @@ use Rattle.search.specs.State.{Busy}
 use Rattle.search.specs.Steps.{waiting, packed, Underway, Same, passed, taken, RelaxAsks, Relaxed, RelaxKeeps, SpreadAsks, Spreads, SpreadKeeps}
 use Rattle.search.specs.declared.Reading.{Reading}
 use Rattle.search.proofs.Laws.{laws, heads-in, count-is}
+use Rattle.search.proofs.Packing.{put-waiting}
 use Rattle.search.proofs.Relaxing.{pass, take, keeps-u}
 
 -- ---- one road
@@ -41,14 +42,6 @@ module _ (N : Net) (psi : ℕ → ℕ) (n s l turns u k : ℕ) (lw : Laws N psi)
         go (yes p) = omega (arith, b .state .keyed v p)
         go (no p) = omega arith
 
-    waiting-put : (v x : ℕ) → v < places → L v < x → Put (keyAt queue) (keyAt queue') v (max (keyAt queue v) (packed (x + psi v) v))
-        → Put (waiting queue) (waiting queue') v (x + psi v)
-    waiting-put v x h m p =
-        record {
-          here = ap (λ (y : ℕ). y / places) (p .here) ∙ new-key v x h m;
-          rest = λ i e. ap (λ (y : ℕ). y / places) (p .rest i e);
-        }
-
     pub one-road : Relaxed N psi k label L W (keyAt queue) L' W' (keyAt queue')
         → Busy N psi n s l turns u k L' W' (waiting queue') × (L' u ≡ L u)
     one-road (passed h same-l same-w same-k) = (
@@ -59,7 +52,7 @@ module _ (N : Net) (psi : ℕ → ℕ) (n s l turns u k : ℕ) (lw : Laws N psi)
     one-road (taken h put-l put-w put-k) =
         let v = N .roads .head k in
         let x = N .step k label in
-        let q = waiting-put v x (omega arith) h put-k in (
+        let q = put-waiting queue queue' put-k (new-key v x (omega arith) h) in (
           take N psi n s l turns u k L W (waiting queue) b here lw road v x refl within brings h L' W' (waiting queue') put-l put-w q,
           keeps-u N psi n s l turns u k L W (waiting queue) b here lw road v x refl within brings h L' W' (waiting queue') put-l put-w q,
         )

@@ -7,47 +7,21 @@ use native.Mathlib.Omega.{arith}
 use lib.ListN.{length, set, take, drop, length-set, take-append-drop}
 use Rattle.frontier.specs.Frontier.{entry}
 use Rattle.walks.specs.Walk.{Roads}
-use Rattle.search.specs.Trails.{Trail, here, back, TrailOf, Counted, WriteAsks, Written}
-
--- a trail that has not come to the source
-pub record Further (R : Roads) (W : ℕ → ℕ) (n s v : ℕ) (es ks : List ℕ) : Type 0 where
-  pub within : v < n
-  pub road : W v < R .count
-  pub rest : Trail R W n s (R .tail (W v)) (W v ∷ es) ks
-
-pub further : {R : Roads} {W : ℕ → ℕ} {n s v : ℕ} {es ks : List ℕ} → Trail R W n s v es ks → v ≢ s → Further R W n s v es ks
-further here e = absurd (e refl)
-further (back ne within road rest) e = record { within = within; road = road; rest = rest }
-
-pub at-source : {R : Roads} {W : ℕ → ℕ} {n s v : ℕ} {es ks : List ℕ} → Trail R W n s v es ks → v ≡ s → es ≡ ks
-at-source here e = refl
-at-source (back ne within road rest) e = absurd (ne e)
-
-pub trail-le : {R : Roads} {W : ℕ → ℕ} {n s v : ℕ} {es ks : List ℕ} → Trail R W n s v es ks → length es ≤ length ks
-trail-le here = omega arith
-trail-le (back ne within road rest) = omega (arith, trail-le rest)
-
--- there is one trail
-pub trail-one : {R : Roads} {W : ℕ → ℕ} {n s v : ℕ} {es ks js : List ℕ} → Trail R W n s v es ks → Trail R W n s v es js → ks ≡ js
-trail-one here t = at-source t refl
-trail-one (back ne within road rest) t = trail-one rest (further t ne .rest)
-
-pub trail-wider : {R : Roads} {W : ℕ → ℕ} {n m s v : ℕ} {es ks : List ℕ} → n ≤ m → Trail R W n s v es ks → Trail R W m s v es ks
-trail-wider h here = here
-trail-wider h (back ne within road rest) = back ne (omega arith) road (trail-wider h rest)
+use Rattle.search.specs.Trails.{Trail, TrailOf, Counted, WriteAsks, Written}
+use Rattle.search.proofs.Trailing.{further, at-source, trail-le, trail-one}
 
 -- ---- the walk back: count roads lie behind v, and the rest is the same
 
-pub record Walked (R : Roads) (ways : List ℕ) (s t v count : ℕ) (ks : List ℕ) : Type 0 where
+pub record Walked (R : Roads) (ways : List ℕ) (s v count : ℕ) (ks : List ℕ) : Type 0 where
   pub behind : List ℕ
   pub count-is : count ≡ length behind
   pub trail : Trail R (entry ways) (length ways) s v behind ks
 
-pub walked-none : {R : Roads} {ways : List ℕ} {s t : ℕ} {ks : List ℕ} → TrailOf R ways s t ks → Walked R ways s t t 0 ks
+pub walked-none : {R : Roads} {ways : List ℕ} {s t : ℕ} {ks : List ℕ} → TrailOf R ways s t ks → Walked R ways s t 0 ks
 walked-none t = record { behind = []; count-is = refl; trail = t }
 
-pub walked-more : {R : Roads} {ways : List ℕ} {s t v count : ℕ} {ks : List ℕ} → Walked R ways s t v count ks → v ≢ s
-    → Walked R ways s t (R .tail (entry ways v)) (count + 1) ks
+pub walked-more : {R : Roads} {ways : List ℕ} {s v count : ℕ} {ks : List ℕ} → Walked R ways s v count ks → v ≢ s
+    → Walked R ways s (R .tail (entry ways v)) (count + 1) ks
 walked-more {ways = ways} {v = v} w e =
     record {
       behind = entry ways v ∷ w .behind;
@@ -57,13 +31,13 @@ walked-more {ways = ways} {v = v} w e =
 
 -- ---- writing: the list is its first i entries, then the roads behind v, then the rest as it was
 
-pub record Writing (R : Roads) (ways : List ℕ) (s t v i : ℕ) (ks list list' : List ℕ) : Type 0 where
-  pub walked : Walked R ways s t v (length ks - i) ks
+pub record Writing (R : Roads) (ways : List ℕ) (s v i : ℕ) (ks list list' : List ℕ) : Type 0 where
+  pub walked : Walked R ways s v (length ks - i) ks
   pub low : i ≤ length ks
   pub list-is : list' ≡ take i list ++ (walked .behind ++ drop (length ks) list)
 
 pub writing-none : {R : Roads} {ways : List ℕ} {s t : ℕ} {ks : List ℕ} (list : List ℕ) → TrailOf R ways s t ks
-    → Writing R ways s t t (length ks) ks list list
+    → Writing R ways s t (length ks) ks list list
 writing-none {ks = ks} list t =
     record {
       walked = record { behind = []; count-is = omega arith; trail = t };
@@ -77,9 +51,9 @@ set-end [] ys i e h = absurd (omega arith)
 set-end (x ∷ xs) ys zero e h = refl
 set-end (x ∷ xs) ys (suc i) e h = ap (λ (r : List ℕ). x ∷ r) (set-end xs ys i e (omega arith))
 
-pub writing-more : {R : Roads} {ways : List ℕ} {s t v i : ℕ} {ks list list' : List ℕ} → Writing R ways s t v i ks list list' → v ≢ s
+pub writing-more : {R : Roads} {ways : List ℕ} {s v i : ℕ} {ks list list' : List ℕ} → Writing R ways s v i ks list list' → v ≢ s
     → i ≤ length list
-    → Writing R ways s t (R .tail (entry ways v)) (i - 1) ks list (set list' (i - 1) (entry ways v))
+    → Writing R ways s (R .tail (entry ways v)) (i - 1) ks list (set list' (i - 1) (entry ways v))
 writing-more {ways = ways} {v = v} {i = i} {ks = ks} {list = list} {list' = list'} w e fits =
     let f = further (w .walked .trail) e in
     let pos : 0 < i = omega (arith, trail-le (f .rest), w .walked .count-is, w .low) in
@@ -98,7 +72,7 @@ writing-more {ways = ways} {v = v} {i = i} {ks = ks} {list = list} {list' = list
           ∙ set-end list (w .walked .behind ++ drop (length ks) list) (i - 1) (entry ways v) (omega arith);
     }
 
-pub writing-done : {R : Roads} {ways : List ℕ} {s t v i : ℕ} {ks list list' : List ℕ} → Writing R ways s t v i ks list list' → v ≡ s
+pub writing-done : {R : Roads} {ways : List ℕ} {s v i : ℕ} {ks list list' : List ℕ} → Writing R ways s v i ks list list' → v ≡ s
     → list' ≡ ks ++ drop (length ks) list
 writing-done {i = i} {ks = ks} {list = list} {list' = list'} w e =
     let q = at-source (w .walked .trail) e in
@@ -113,7 +87,7 @@ pub record CountLoop (R : Roads) (ways : List ℕ) (s t v count : ℕ) : Type 0 
   pub by : List ℕ
   pub whole : TrailOf R ways s t by
   pub few : length by < length ways
-  pub walked : Walked R ways s t v count by
+  pub walked : Walked R ways s v count by
 
 pub count-next : {R : Roads} {ways : List ℕ} {s t v u count : ℕ} → CountLoop R ways s t v count → v ≢ s → u ≡ R .tail (entry ways v)
     → CountLoop R ways s t u (count + 1)
@@ -122,7 +96,7 @@ count-next {R} {ways} {s} {t} {count = count} l e p =
       by = l .by;
       whole = l .whole;
       few = l .few;
-      walked = subst (λ (w : ℕ). Walked R ways s t w (count + 1) (l .by)) (sym p) (walked-more (l .walked) e);
+      walked = subst (λ (w : ℕ). Walked R ways s w (count + 1) (l .by)) (sym p) (walked-more (l .walked) e);
     }
 
 pub count-done : {R : Roads} {ways : List ℕ} {s t v count : ℕ} → CountLoop R ways s t v count → v ≡ s → Counted R ways s t count
@@ -134,7 +108,7 @@ pub record WriteLoop (R : Roads) (ways : List ℕ) (s t v i : ℕ) (list list' :
   pub whole : TrailOf R ways s t by
   pub fits : length by ≤ length list
   pub long : length list' ≡ length list
-  pub writing : Writing R ways s t v i by list list'
+  pub writing : Writing R ways s v i by list list'
 
 pub write-start : {R : Roads} {ways : List ℕ} {s t count : ℕ} {list : List ℕ} → WriteAsks R ways s t count list
     → WriteLoop R ways s t t count list list
@@ -145,7 +119,7 @@ write-start {R} {ways} {s} {t} {count} {list} a =
       whole = a .trailed .trail;
       fits = omega (arith, a .fits, a .count-is);
       long = refl;
-      writing = subst (λ (i : ℕ). Writing R ways s t t i ks list list) (sym (a .count-is)) (writing-none list (a .trailed .trail));
+      writing = subst (λ (i : ℕ). Writing R ways s t i ks list list) (sym (a .count-is)) (writing-none list (a .trailed .trail));
     }
 
 pub write-some : {R : Roads} {ways : List ℕ} {s t v i : ℕ} {list list' : List ℕ} → WriteLoop R ways s t v i list list' → v ≢ s → 0 < i
@@ -162,7 +136,7 @@ write-next {R} {ways} {s} {t} {v} {i = i} {list} {list'} l e p =
       fits = l .fits;
       long = length-set list' (i - 1) (entry ways v) ∙ l .long;
       writing =
-          subst (λ (w : ℕ). Writing R ways s t w (i - 1) (l .by) list (set list' (i - 1) (entry ways v))) (sym p)
+          subst (λ (w : ℕ). Writing R ways s w (i - 1) (l .by) list (set list' (i - 1) (entry ways v))) (sym p)
           (writing-more (l .writing) e (omega (arith, l .fits, l .writing .low)));
     }
 

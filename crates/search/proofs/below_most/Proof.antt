@@ -7,7 +7,7 @@ use mir.Syntax.{w32, w64}
 use mir.Val.{SFits, toZ, ofZ}
 use Rattle.numbers.proofs.Bits.{wide-fits, wide-back, minus-fits}
 use Rattle.numbers.specs.Signed.{draw}
-use Rattle.search.proofs.Laws.{psi-forward-fits}
+use Rattle.search.proofs.StepForward.{psi-forward-fits}
 use Rattle.search.specs.Reading.{mostPotential}
 use Rattle.search.proofs.below_most.Statement.{statement}
 use Rattle.search.proofs.below_most.Tie as tie

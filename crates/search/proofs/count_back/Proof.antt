@@ -7,7 +7,8 @@ use lib.ListN.{length}
 use Rattle.frontier.specs.Frontier.{entry}
 use Rattle.network.specs.Files.{roadCount}
 use Rattle.search.proofs.Laws.{tail-at, count-is}
-use Rattle.search.proofs.Writing.{Further, further, trail-le, walked-none, CountLoop, count-next, count-done}
+use Rattle.search.proofs.Trailing.{Further, further, trail-le}
+use Rattle.search.proofs.Writing.{walked-none, CountLoop, count-next, count-done}
 use Rattle.search.specs.Reading.{net}
 use Rattle.search.proofs.count_back.Statement.{statement}
 use Rattle.search.proofs.count_back.Tie as tie

@@ -3,7 +3,8 @@
 -- Assumes nothing.
 use mathlib.Core.Path.{sym, _∙_}
 use native.Mathlib.Omega.{arith}
-use Rattle.search.proofs.Exploring.{ExploreLoop, left-over, source-asks, first-raises, explore-start, removes, spread-asks, explored-target, explore-next, explore-less, explored-all}
+use Rattle.search.proofs.Exploring.{ExploreLoop, left-over, removes, spread-asks, explored-target, explore-next, explore-less, explored-all}
+use Rattle.search.proofs.Starting.{source-asks, first-raises, explore-start}
 use Rattle.search.proofs.explore.Statement.{statement}
 use Rattle.search.proofs.explore.Tie as tie
 

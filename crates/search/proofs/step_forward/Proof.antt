@@ -4,7 +4,7 @@ use native.Mathlib.Omega.{arith}
 use borrow.Author.Needs.{needs}
 use Rattle.numbers.proofs.Bits.{back32}
 use Rattle.numbers.specs.Signed.{draw, gain}
-use Rattle.search.proofs.Laws.{step-forward-is}
+use Rattle.search.proofs.StepForward.{step-forward-is}
 use Rattle.search.proofs.step_forward.Statement.{statement}
 use Rattle.search.proofs.step_forward.Tie as tie
 

@@ -7,7 +7,8 @@ use lib.ListN.{length}
 use Rattle.frontier.specs.Frontier.{entry}
 use Rattle.network.specs.Files.{roadCount}
 use Rattle.search.proofs.Laws.{tail-at, count-is}
-use Rattle.search.proofs.Writing.{Further, further, WriteLoop, write-start, write-some, write-next, write-done}
+use Rattle.search.proofs.Trailing.{Further, further}
+use Rattle.search.proofs.Writing.{WriteLoop, write-start, write-some, write-next, write-done}
 use Rattle.search.specs.Reading.{net}
 use Rattle.search.proofs.write_back.Statement.{statement}
 use Rattle.search.proofs.write_back.Tie as tie
