@@ -47,11 +47,13 @@ pub enum Planned {
 }
 
 // Document 01's number and values of each answer. A success has number 0 and place 0.
+#[repr(C)]
 pub struct CheckNumbers {
     pub number: u64,
     pub place: u64,
 }
 
+#[repr(C)]
 pub struct PlanNumbers {
     pub number: u64,
     pub place: u64,
@@ -62,6 +64,7 @@ pub struct PlanNumbers {
     pub spilled: u64,
 }
 
+#[repr(C)]
 pub struct DriveNumbers {
     pub number: u64,
     pub place: u64,
@@ -71,6 +74,7 @@ pub struct DriveNumbers {
     pub spilled: u64,
 }
 
+#[repr(C)]
 pub struct ProfileNumbers {
     pub number: u64,
     pub place: u64,

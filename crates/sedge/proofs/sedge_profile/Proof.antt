@@ -1,0 +1,13 @@
+-- `sedge::sedge_profile` meets its contract: the entry's own promise. Assumes nothing.
+use borrow.Author.Needs.{needs}
+use mir.Facts.{toZ-ofZ}
+use Rattle.sedge.proofs.sedge_profile.Statement.{statement}
+use Rattle.sedge.proofs.sedge_profile.Tie as tie
+
+pub sedge-profile-spec : {M : Type 1} → statement M
+sedge-profile-spec =
+    tie.close
+    (tie.spec
+    (λ c κs. search needs)
+    (λ c κs. search needs)
+    (λ c. rw (c .profile-numbers .ensures) (simp (toZ-ofZ (c .before .before .before .before .before .fits .battery)) at (c .before .profile .ensures))))

@@ -1,0 +1,76 @@
+// The C boundary: the four public entries under their C names. A file or a list is a pointer and a
+// length; the answers are the planner's numbers, by value. include/sedge.h declares them for C.
+ghost use Rattle.planner.specs.Promises.{Checks, Plans, Drives, Profiles};
+ghost use Rattle.sedge.specs.Questions.{planQuestion, driveQuestion, profileQuestion};
+use planner::CheckNumbers;
+use planner::DriveNumbers;
+use planner::DriveQuestion;
+use planner::PlanNumbers;
+use planner::PlanQuestion;
+use planner::ProfileNumbers;
+use planner::ProfileQuestion;
+
+// Network check.
+#[no_mangle]
+pub extern "C" fn sedge_check(nodes: &[u8], roads: &[u8]) -> CheckNumbers
+    ensures { λ r. ⌜ Checks (now (nodes .entry)) (now (roads .entry)) r ⌝ }
+{
+    planner::check_numbers(planner::check(nodes, roads))
+}
+
+// Best route.
+#[no_mangle]
+pub extern "C" fn sedge_best_route(
+    nodes: &[u8],
+    roads: &[u8],
+    battery: i64,
+    start: i64,
+    source: u64,
+    target: u64,
+    route: &mut [u16],
+) -> PlanNumbers
+    ensures { λ r. ⌜ Plans (now (nodes .entry)) (now (roads .entry)) (planQuestion battery start source target) (now (route .entry)) r (now (route .exit)) ⌝ }
+{
+    let question = PlanQuestion {
+        battery,
+        start,
+        source,
+        target,
+    };
+    planner::plan_numbers(planner::best_route(nodes, roads, question, route))
+}
+
+// Drive of a given route.
+#[no_mangle]
+pub extern "C" fn sedge_drive(
+    nodes: &[u8],
+    roads: &[u8],
+    battery: i64,
+    start: i64,
+    source: u64,
+    route: &[u16],
+) -> DriveNumbers
+    ensures { λ r. ⌜ Drives (now (nodes .entry)) (now (roads .entry)) (driveQuestion battery start source) (now (route .entry)) r ⌝ }
+{
+    let question = DriveQuestion {
+        battery,
+        start,
+        source,
+    };
+    planner::drive_numbers(planner::drive(nodes, roads, question, route))
+}
+
+// Profile of a given route.
+#[no_mangle]
+pub extern "C" fn sedge_profile(
+    nodes: &[u8],
+    roads: &[u8],
+    battery: i64,
+    source: u64,
+    route: &[u16],
+) -> ProfileNumbers
+    ensures { λ r. ⌜ Profiles (now (nodes .entry)) (now (roads .entry)) (profileQuestion battery source) (now (route .entry)) r ⌝ }
+{
+    let question = ProfileQuestion { battery, source };
+    planner::profile_numbers(planner::profile(nodes, roads, question, route))
+}
