@@ -1,0 +1,106 @@
+-- A line of numbers, number by number, and that the bytes have one. Assumes nothing.
+use mathlib.Core.Path.{_≡_, refl, sym, ap, _∙_, subst}
+use mathlib.Core.List.{List, [], _∷_, _++_}
+use Prim.Native.Nat.{ℕ, _^_, _≤_, _<_}
+use native.Mathlib.Omega.{arith}
+use lib.Dec.{lit<}
+use lib.ListN.{length, drop}
+use Rattle.planner.specs.declared.PlanQuestion.{PlanQuestion}
+use Rattle.text.specs.Claims.{OneReading}
+use Rattle.text.specs.Digits.{spelled}
+use Rattle.text.specs.Line.{space, newline, Number, Line, last, then, question, ReadsQuery, query, bad}
+use Rattle.text.specs.Taking.{NoDigit, Takes, number, nothing}
+use Rattle.text.specs.declared.line.Asked.{Asked}
+use Rattle.text.specs.declared.line.Asked.the-variants as asked
+use Rattle.text.specs.declared.line.Taken.the-variants as taken
+use Rattle.text.proofs.Digits.{spelled-lt, Cut, cut}
+
+no-digit-space : NoDigit space
+no-digit-space lo hi = omega arith
+
+no-digit-newline : NoDigit newline
+no-digit-newline lo hi = omega arith
+
+-- a number of the line is below 10^10
+number-lt : {n : ℕ} {t : List ℕ} → Number n t → n < 10 ^ 10
+number-lt m = let h = spelled-lt 0 0 10 (m .digits) (lit< tt) (omega (arith, m .most)) in omega (arith, m .value)
+
+-- two numbers of the line by the same bytes are one
+one-number : {n m : ℕ} {t u : List ℕ} → Number n t → Number m u → t ≡ u → n ≡ m
+one-number {m} {u} a b e = sym (a .value) ∙ subst (λ (t : List ℕ). spelled 0 t ≡ m) (sym e) (b .value)
+
+-- ---- what is taken off the line is what the line has
+pub record Peeled (n v : ℕ) (ns s : List ℕ) : Type 0 where
+  pub number-is : n ≡ v
+  pub rest : Line ns s
+
+pub peel : {s : List ℕ} {i n m v k : ℕ} {ns : List ℕ} → Takes s i space (taken.Number v k) → Line (n ∷ m ∷ ns) (drop i s)
+    → Peeled n v (m ∷ ns) (drop k s)
+peel {s} {m} {k} {ns} (number t a e l) (then u rest b f more) =
+    let c = cut space space rest (drop k s) (b .digits) (a .digits) no-digit-space no-digit-space (sym f ∙ e) in
+    record { number-is = one-number b a (c .front); rest = subst (λ (x : List ℕ). Line (m ∷ ns) x) (c .rest) more }
+
+pub no-then : {s : List ℕ} {i n m : ℕ} {ns : List ℕ} → Takes s i space taken.Nothing → Line (n ∷ m ∷ ns) (drop i s) → ⊥
+no-then {n} (nothing f) (then u rest b e more) = f n u rest b e
+
+pub no-last : {s : List ℕ} {i n : ℕ} → Takes s i newline taken.Nothing → Line (n ∷ []) (drop i s) → ⊥
+no-last {n} (nothing f) (last u rest b e) = f n u rest b e
+
+-- ---- the query line: the ways in which it is bad, and the one in which it is good
+pub bad-battery : {s : List ℕ} → Takes s 0 space taken.Nothing → ReadsQuery s asked.Bad
+bad-battery a = bad (λ m b u v l. no-then a l)
+
+pub bad-start : {s : List ℕ} {m i : ℕ} → Takes s 0 space (taken.Number m i) → Takes s i space taken.Nothing → ReadsQuery s asked.Bad
+bad-start a b = bad (λ m x u v l. no-then b (peel a l .rest))
+
+pub bad-source : {s : List ℕ} {m i b j : ℕ} → Takes s 0 space (taken.Number m i) → Takes s i space (taken.Number b j)
+    → Takes s j space taken.Nothing → ReadsQuery s asked.Bad
+bad-source a b c = bad (λ m x u v l. no-then c (peel b (peel a l .rest) .rest))
+
+pub bad-target : {s : List ℕ} {m i b j u k : ℕ} → Takes s 0 space (taken.Number m i) → Takes s i space (taken.Number b j)
+    → Takes s j space (taken.Number u k) → Takes s k newline taken.Nothing → ReadsQuery s asked.Bad
+bad-target a b c d = bad (λ m x u v l. no-last d (peel c (peel b (peel a l .rest) .rest) .rest))
+
+pub good : {s : List ℕ} {m i b j u k v n : ℕ} → Takes s 0 space (taken.Number m i) → Takes s i space (taken.Number b j)
+    → Takes s j space (taken.Number u k) → Takes s k newline (taken.Number v n) → ReadsQuery s (asked.Query (question m b u v))
+good {s} {m} {i} {b} {j} {u} {k} {v} {n} (number t p e l) (number t2 p2 e2 l2) (number t3 p3 e3 l3) (number t4 p4 e4 l4) =
+    query m b u v (then t (drop i s) p e (then t2 (drop j s) p2 e2 (then t3 (drop k s) p3 e3 (last t4 (drop n s) p4 e4))))
+
+-- where the next number begins, and how large one is
+pub next-inside : {s : List ℕ} {i e v k : ℕ} → Takes s i e (taken.Number v k) → k ≤ length s
+next-inside (number t p e l) = l
+
+pub taken-small : {s : List ℕ} {i e v k : ℕ} → Takes s i e (taken.Number v k) → v < 10 ^ 10
+taken-small (number t p e l) = number-lt p
+
+-- ---- one line
+lines-agree : {ns ms s : List ℕ} → Line ns s → Line ms s → ns ≡ ms
+lines-agree (last t x a e) (last u y b f) =
+    let c = cut newline newline x y (a .digits) (b .digits) no-digit-newline no-digit-newline (sym e ∙ f) in
+    let p = one-number a b (c .front) in
+    λ i. p i ∷ []
+lines-agree (last t x a e) (then u y b f more) =
+    let c = cut newline space x y (a .digits) (b .digits) no-digit-newline no-digit-space (sym e ∙ f) in
+    let z = c .ends in
+    absurd (omega arith)
+lines-agree (then t x a e more) (last u y b f) =
+    let c = cut space newline x y (a .digits) (b .digits) no-digit-space no-digit-newline (sym e ∙ f) in
+    let z = c .ends in
+    absurd (omega arith)
+lines-agree (then {m} {ns} t x a e more) (then u y b f others) =
+    let c = cut space space x y (a .digits) (b .digits) no-digit-space no-digit-space (sym e ∙ f) in
+    let p = one-number a b (c .front) in
+    let q = lines-agree (subst (λ (z : List ℕ). Line (m ∷ ns) z) (c .rest) more) others in
+    λ i. p i ∷ q i
+
+pub one-reading : OneReading
+one-reading s a b (query m x u v l) (query m' x' u' v' l') =
+    let e = lines-agree l l' in
+    let p : m ≡ m' = cc in
+    let q : x ≡ x' = cc in
+    let r : u ≡ u' = cc in
+    let t : v ≡ v' = cc in
+    λ i. asked.Query (question (p i) (q i) (r i) (t i))
+one-reading s a b (query m x u v l) (bad f) = absurd (f m x u v l)
+one-reading s a b (bad f) (query m x u v l) = absurd (f m x u v l)
+one-reading s a b (bad f) (bad g) = refl

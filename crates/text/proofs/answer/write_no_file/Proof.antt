@@ -1,0 +1,13 @@
+-- `text::answer::write_no_file` meets its contract. Assumes nothing.
+use borrow.Author.Needs.{needs}
+use Rattle.text.proofs.Writing.{puts-counts}
+use Rattle.text.proofs.answer.write_no_file.Statement.{statement}
+use Rattle.text.proofs.answer.write_no_file.Tie as tie
+
+pub write-no-file-spec : {M : Type 1} → statement M
+write-no-file-spec =
+    tie.close
+    (tie.spec
+    (λ c. search needs)
+    (λ c κs. search needs)
+    (λ c. (puts-counts (c .put .ensures), c .put .ensures .text)))

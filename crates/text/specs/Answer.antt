@@ -1,0 +1,65 @@
+-- The lines that a program writes.
+use mathlib.Core.List.{List, [], _∷_, _++_}
+use Prim.Native.Nat.{ℕ}
+use mathlib.Core.Bool.{cond}
+use lib.Dec.{eqb}
+use lib.ListN.{take}
+use Rattle.planner.specs.declared.PlanNumbers.{PlanNumbers}
+use Rattle.text.specs.Digits.{decimal}
+use Rattle.text.specs.Line.{space, newline}
+
+-- the words, byte by byte
+abbrev pub arrival : List ℕ
+arrival = 97 ∷ 114 ∷ 114 ∷ 105 ∷ 118 ∷ 97 ∷ 108 ∷ []
+
+abbrev pub drawn : List ℕ
+drawn = 100 ∷ 114 ∷ 97 ∷ 119 ∷ 110 ∷ []
+
+abbrev pub recovered : List ℕ
+recovered = 114 ∷ 101 ∷ 99 ∷ 111 ∷ 118 ∷ 101 ∷ 114 ∷ 101 ∷ 100 ∷ []
+
+abbrev pub spilled : List ℕ
+spilled = 115 ∷ 112 ∷ 105 ∷ 108 ∷ 108 ∷ 101 ∷ 100 ∷ []
+
+abbrev pub roads : List ℕ
+roads = 114 ∷ 111 ∷ 97 ∷ 100 ∷ 115 ∷ []
+
+abbrev pub refused : List ℕ
+refused = 114 ∷ 101 ∷ 102 ∷ 117 ∷ 115 ∷ 101 ∷ 100 ∷ []
+
+-- `bad query` and `no file`, each on a line
+abbrev pub badQuery : List ℕ
+badQuery = 98 ∷ 97 ∷ 100 ∷ space ∷ 113 ∷ 117 ∷ 101 ∷ 114 ∷ 121 ∷ newline ∷ []
+
+abbrev pub noFile : List ℕ
+noFile = 110 ∷ 111 ∷ space ∷ 102 ∷ 105 ∷ 108 ∷ 101 ∷ newline ∷ []
+
+-- a number on a line
+abbrev pub numberLine : ℕ → List ℕ
+numberLine n = decimal n ++ (newline ∷ [])
+
+-- a word with a space and its number, on a line
+abbrev pub wordLine : List ℕ → ℕ → List ℕ
+wordLine w n = w ++ (space ∷ numberLine n)
+
+-- numbers, one to a line
+unfoldable pub numberLines : List ℕ → List ℕ
+numberLines [] = []
+numberLines (n ∷ ns) = numberLine n ++ numberLines ns
+
+-- a route: its numbers, then each road number in driving order
+unfoldable pub routeText : PlanNumbers → List ℕ → List ℕ
+routeText a ks =
+    wordLine arrival (a .arrival) ++
+    (wordLine drawn (a .drawn) ++
+    (wordLine recovered (a .recovered) ++
+    (wordLine spilled (a .spilled) ++
+    (wordLine roads (a .roads) ++ numberLines ks))))
+
+-- a refusal: `refused`, number, place, on one line with single spaces
+unfoldable pub refusedText : ℕ → ℕ → List ℕ
+refusedText number place = refused ++ (space ∷ (decimal number ++ (space ∷ numberLine place)))
+
+-- what best route gives back, with the lent list after it: a success is written as a route, anything else as a refusal
+abbrev pub answerText : PlanNumbers → List ℕ → List ℕ
+answerText a xs = cond (eqb (a .number) 0) (routeText a (take (a .roads) xs)) (refusedText (a .number) (a .place))

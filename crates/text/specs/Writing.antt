@@ -1,0 +1,10 @@
+-- What the writer's functions keep. No promise cites it.
+use mathlib.Core.Path.{_≡_}
+use mathlib.Core.List.{List, _++_}
+use Prim.Native.Nat.{ℕ, _+_}
+use lib.ListN.{length, take}
+
+-- o is the buffer before, o' after: its first bytes stay up to `from`, the text t follows, and the next place is `to`
+pub record Puts (o : List ℕ) (from : ℕ) (t o' : List ℕ) (to : ℕ) : Type 0 where
+  pub next : to ≡ from + length t
+  pub text : take to o' ≡ take from o ++ t
