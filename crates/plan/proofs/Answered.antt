@@ -1,12 +1,10 @@
 -- From what best route gives back to what is written. Assumes nothing.
 use mathlib.Core.Path.{_≡_, refl, sym, ap, _∙_, subst}
-use mathlib.Core.List.{List, [], _∷_, _++_}
-use mathlib.Core.Logic.{_≢_}
-use Prim.Native.Nat.{ℕ, _-_, _≤_, _<_}
+use mathlib.Core.List.{List}
+use Prim.Native.Nat.{ℕ, _-_, _≤_}
 use native.Mathlib.Omega.{arith}
-use borrow.Author.Tests.{eq-eqb, ne-eqb}
-use lib.ListN.{length, take, drop, length-append, length-drop, length-take}
-use lib.Seq.{length-take-le}
+use borrow.Author.Tests.{ne-eqb}
+use lib.ListN.{length, take, drop, length-append, length-drop}
 use Rattle.network.proofs.Faults.{number-pos}
 use Rattle.network.specs.Refusals.{numberOf, placeOf}
 use Rattle.network.specs.declared.Refusal.{Refusal}
@@ -17,7 +15,7 @@ use Rattle.planner.specs.declared.Planned.{Planned}
 use Rattle.planner.specs.declared.Planned.the-variants as planned
 use Rattle.planner.specs.declared.PlanNumbers.{PlanNumbers}
 use Rattle.planner.specs.declared.PlanQuestion.{PlanQuestion}
-use Rattle.text.specs.Answer.{answerText, routeText, refusedText, noFile}
+use Rattle.text.specs.Answer.{mostRoute, answerText, routeText, refusedText, noFile}
 use Rattle.text.specs.Line.{ReadsQuery, query, bad}
 use Rattle.text.specs.declared.line.Asked.the-variants as asked
 use Rattle.plan.specs.Response.{NoQuery, Responds, WithoutFiles}
@@ -61,6 +59,6 @@ refusal-text {r} xs g e =
     ∙ ap (λ (a : Planned). answerText (planNumbers a) xs) (sym e)
 
 pub responds : {line ns rs list xs t : List ℕ} {q : PlanQuestion} {a : PlanNumbers} → ReadsQuery line (asked.Query q)
-    → length list ≡ 2047 → Plans ns rs q list a xs → t ≡ answerText a xs → Responds line ns rs t
+    → length list ≡ mostRoute → Plans ns rs q list a xs → t ≡ answerText a xs → Responds line ns rs t
 responds {line} {ns} {rs} {list} {xs} {a} (query m b u v l) n p e =
     subst (λ (t : List ℕ). Responds line ns rs t) (sym e) (Responds.answered m b u v list xs a l n p)

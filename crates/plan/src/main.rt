@@ -1,6 +1,5 @@
 // The cab program: one line on standard input, nodes.bin and roads.bin from the current folder, the
 // answer on standard output. What is written is decided by `respond` and `without_files`.
-ghost use mathlib.Core.Path.{_≡_};
 ghost use lib.ListN.{take};
 ghost use Rattle.io.specs.Counts.{Counts};
 ghost use Rattle.plan.specs.Response.{Responds, WithoutFiles};
@@ -11,13 +10,13 @@ use text::Asked;
 use text::MOST_ROUTE;
 use text::MOST_TEXT;
 
-// A query line has at most four numbers of ten digits, three spaces and a newline.
-const MOST_LINE: usize = 44;
+// The longest query line: four numbers, each with the byte after it.
+const MOST_LINE: usize = 4 * (text::MOST_DIGITS + 1);
 
-// One byte past the limit of each file tells one that is too long.
-const NODES_ROOM: usize = 8193;
+// One byte past a file's limit tells that it is too long.
+const NODES_ROOM: usize = network::MOST_JUNCTIONS * network::JUNCTION_BYTES + 1;
 
-const ROADS_ROOM: usize = 65537;
+const ROADS_ROOM: usize = network::MOST_ROADS * network::ROAD_BYTES + 1;
 
 // Whether a file could be read, and how many of its bytes were.
 struct Got {

@@ -1,19 +1,17 @@
 -- A line of numbers, number by number, and that the bytes have one. Assumes nothing.
 use mathlib.Core.Path.{_≡_, refl, sym, ap, _∙_, subst}
-use mathlib.Core.List.{List, [], _∷_, _++_}
+use mathlib.Core.List.{List, [], _∷_, _++_, append-assoc}
 use Prim.Native.Nat.{ℕ, _^_, _≤_, _<_}
 use native.Mathlib.Omega.{arith}
 use lib.Dec.{lit<}
-use lib.ListN.{length, drop}
-use Rattle.planner.specs.declared.PlanQuestion.{PlanQuestion}
-use Rattle.text.specs.Claims.{OneReading}
+use lib.ListN.{length, drop, length-append}
+use Rattle.text.specs.Claims.{OneReading, RestIsFree, LineIsShort}
 use Rattle.text.specs.Digits.{spelled}
 use Rattle.text.specs.Line.{space, newline, Number, Line, last, then, question, ReadsQuery, query, bad}
 use Rattle.text.specs.Taking.{NoDigit, Takes, number, nothing}
-use Rattle.text.specs.declared.line.Asked.{Asked}
 use Rattle.text.specs.declared.line.Asked.the-variants as asked
 use Rattle.text.specs.declared.line.Taken.the-variants as taken
-use Rattle.text.proofs.Digits.{spelled-lt, Cut, cut}
+use Rattle.text.proofs.Digits.{spelled-lt, cut}
 
 no-digit-space : NoDigit space
 no-digit-space lo hi = omega arith
@@ -104,3 +102,33 @@ one-reading s a b (query m x u v l) (query m' x' u' v' l') =
 one-reading s a b (query m x u v l) (bad f) = absurd (f m x u v l)
 one-reading s a b (bad f) (query m x u v l) = absurd (f m x u v l)
 one-reading s a b (bad f) (bad g) = refl
+
+-- ---- what follows the line, and how long the line is
+pub rest-is-free : RestIsFree
+rest-is-free ns s rest (last t x a e) = last t (x ++ rest) a (ap (λ (y : List ℕ). y ++ rest) e ∙ append-assoc t (newline ∷ x) rest)
+rest-is-free ns s rest (then {m} {ns = ms} t x a e more) =
+    then t (x ++ rest) a (ap (λ (y : List ℕ). y ++ rest) e ∙ append-assoc t (space ∷ x) rest) (rest-is-free (m ∷ ms) x rest more)
+
+pub line-is-short : LineIsShort
+line-is-short ns s (last t x a e) =
+    let l = length-append t (newline ∷ []) in
+    let m = a .most in
+    record {
+      line = t ++ (newline ∷ []);
+      rest = x;
+      whole = e ∙ sym (append-assoc t (newline ∷ []) x);
+      reads = last t [] a refl;
+      short = omega arith;
+    }
+line-is-short ns s (then {m} {ns = ms} t x a e more) =
+    let w = line-is-short (m ∷ ms) x more in
+    let l = length-append t (space ∷ w .line) in
+    let h = a .most in
+    let k = w .short in
+    record {
+      line = t ++ (space ∷ w .line);
+      rest = w .rest;
+      whole = e ∙ ap (λ (y : List ℕ). t ++ (space ∷ y)) (w .whole) ∙ sym (append-assoc t (space ∷ w .line) (w .rest));
+      reads = then t (w .line) a refl (w .reads);
+      short = omega arith;
+    }

@@ -1,12 +1,17 @@
 -- The lines that a program writes.
 use mathlib.Core.List.{List, [], _∷_, _++_}
-use Prim.Native.Nat.{ℕ}
+use Prim.Native.Nat.{ℕ, _-_}
 use mathlib.Core.Bool.{cond}
 use lib.Dec.{eqb}
 use lib.ListN.{take}
+use Rattle.network.specs.Files.{mostJunctions}
 use Rattle.planner.specs.declared.PlanNumbers.{PlanNumbers}
 use Rattle.text.specs.Digits.{decimal}
 use Rattle.text.specs.Line.{space, newline}
+
+-- the most roads of a route: it visits no junction twice
+abbrev pub mostRoute : ℕ
+mostRoute = mostJunctions - 1
 
 -- the words, byte by byte
 abbrev pub arrival : List ℕ

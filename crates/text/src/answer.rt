@@ -5,15 +5,15 @@ ghost use mathlib.Core.Path.{_≡_};
 ghost use lib.ListN.{length, take};
 ghost use Rattle.io.specs.Counts.{Counts};
 ghost use Rattle.text.specs.Digits.{decimal};
-ghost use Rattle.text.specs.Answer.{numberLine, wordLine, numberLines, routeText, refusedText, badQuery, noFile};
+ghost use Rattle.text.specs.Answer.{mostRoute, numberLine, wordLine, numberLines, routeText, refusedText, badQuery, noFile};
 ghost use Rattle.text.specs.Writing.{Puts};
 use planner::PlanNumbers;
 
-// The most entries of a route: one road fewer than the most junctions.
-pub const MOST_ROUTE: usize = 2047;
+// The most roads of a route: it visits no junction twice.
+pub const MOST_ROUTE: usize = network::MOST_JUNCTIONS - 1;
 
-// Bytes of a line with a word and a number, of a line with a road's number, and room for a number
-// of twenty digits past the last line.
+// The most bytes of a line: nine letters, a space, twenty digits and a newline; or a road's number,
+// of five digits, and a newline. A number is put only where twenty digits fit.
 const WORD_LINE: usize = 31;
 
 const ROAD_LINE: usize = 6;
@@ -39,7 +39,7 @@ pub fn write_no_file(out: &mut [u8; MOST_TEXT]) -> usize
 
 pub fn write_refusal(out: &mut [u8; MOST_TEXT], number: u64, place: u64) -> usize
     ensures { λ r. ⌜ Counts r (now (out .exit)) ⌝ }
-    ensures { λ r. ⌜ take r (now (out .exit)) ≡ (refusedText number place) ⌝ }
+    ensures { λ r. ⌜ take r (now (out .exit)) ≡ refusedText number place ⌝ }
 {
     let mut at = put(out, 0, b"refused ");
     at = put_decimal(out, at, number);
@@ -49,9 +49,9 @@ pub fn write_refusal(out: &mut [u8; MOST_TEXT], number: u64, place: u64) -> usiz
 
 // A route with its numbers: arrival, drawn, recovered, spilled, roads, then each road.
 pub fn write_route(out: &mut [u8; MOST_TEXT], given: PlanNumbers, route: &[u16]) -> usize
-    requires { ⌜ length (now route) ≤ 2047 ⌝ }
+    requires { ⌜ length (now route) ≤ mostRoute ⌝ }
     ensures { λ r. ⌜ Counts r (now (out .exit)) ⌝ }
-    ensures { λ r. ⌜ take r (now (out .exit)) ≡ (routeText given (now (route .entry))) ⌝ }
+    ensures { λ r. ⌜ take r (now (out .exit)) ≡ routeText given (now (route .entry)) ⌝ }
 {
     let mut at = put_word_line(out, 0, b"arrival", given.arrival);
     at = put_word_line(out, at, b"drawn", given.drawn);

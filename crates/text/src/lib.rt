@@ -10,4 +10,5 @@ pub use answer::write_no_file;
 pub use answer::write_refusal;
 pub use answer::write_route;
 pub use line::Asked;
+pub use line::MOST_DIGITS;
 pub use line::read_query;

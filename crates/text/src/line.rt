@@ -15,7 +15,7 @@ pub enum Asked {
 }
 
 // The most digits of a number.
-const MOST_DIGITS: usize = 10;
+pub const MOST_DIGITS: usize = 10;
 
 // A number of the line and the place after the byte that ends it, or that none stands there.
 pub enum Taken {

@@ -1,14 +1,10 @@
 -- `plan::respond` meets its contract. Assumes nothing.
-use mathlib.Core.Path.{_≡_, refl, sym, ap, _∙_, subst}
+use mathlib.Core.Path.{refl, sym, _∙_, subst}
 use Prim.Native.Nat.{_≤_}
 use native.Mathlib.Omega.{arith}
 use borrow.Author.Needs.{needs}
 use lib.ListN.{length}
 use lib.Seq.{length-take-le}
-use Rattle.planner.specs.Given.{planNumbers}
-use Rattle.planner.specs.Promises.{Plans}
-use Rattle.planner.specs.declared.Planned.the-variants as planned
-use Rattle.planner.specs.declared.PlanNumbers.{PlanNumbers}
 use Rattle.text.specs.Line.{ReadsQuery}
 use Rattle.plan.specs.Response.{Responds}
 use Rattle.plan.proofs.Answered.{no-query, route-fits, route-text, refusal-text, responds}

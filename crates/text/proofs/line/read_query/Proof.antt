@@ -6,7 +6,7 @@ use borrow.Author.Needs.{needs}
 use mir.Facts.{toZ-pos}
 use mir.Syntax.{w64}
 use Rattle.text.specs.Line.{space, newline}
-use Rattle.text.specs.Taking.{Takes, Ends}
+use Rattle.text.specs.Taking.{Takes}
 use Rattle.text.specs.declared.line.Taken.the-variants as taken
 use Rattle.text.proofs.Lines.{bad-battery, bad-start, bad-source, bad-target, good, next-inside, taken-small}
 use Rattle.text.proofs.line.read_query.Statement.{statement}

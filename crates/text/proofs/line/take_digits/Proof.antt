@@ -17,7 +17,16 @@ abbrev μ-loop : tie.MeasureT-loop
 
 -- a digit stands inside the line
 inside : (c : tie.After-wide Inv-loop μ-loop) → c .before .before .before .before .before .loop .next < length (c .before .before .before .before .before .before .before .args .line .now)
-inside c = in-list (c .before .before .before .before .before .before .before .args .line .now) (c .before .before .before .before .before .loop .next) (omega (arith, c .before .before .before .before .byte .ensures, c .before .before .before .if1 .left))
+inside c =
+    let lo = c .before .before .before .if1 .left in
+    let b = c .before .before .before .before .byte .ensures in
+    in-list (c .before .before .before .before .before .before .before .args .line .now) (c .before .before .before .before .before .loop .next) (omega arith)
+
+loop-again : tie.Need-loop-again Inv-loop μ-loop
+loop-again c =
+    let lo = c .before .before .before .if1 .left in
+    let hi = c .before .before .if2 .left in
+    run-more (c .before .before .before .before .before .loop .inv) (c .before .before .before .before .byte .ensures) (omega arith) (omega arith) (c .before .if3 .left) (c .wide .ensures)
 
 pub take-digits-spec : {M : Type 1} → statement M
 take-digits-spec =
@@ -28,12 +37,12 @@ take-digits-spec =
     (λ c. run-none (c .before .args .line .now) (c .before .args .i) (c .before .pre))
     (λ c κs. search needs)
     (λ c. omega (arith, c .before .before .before .loop .inv .long))
-    (λ c. let h = run-small (c .before .before .before .before .loop .inv) (c .if3 .left) in omega arith)
+    (λ c. let h = run-small (c .before .before .before .before .loop .inv) in omega arith)
     (λ c κs. search needs)
-    (λ c. let h = run-small (c .before .before .before .before .before .loop .inv) (c .before .if3 .left) in omega arith)
+    (λ c. let h = run-small (c .before .before .before .before .before .loop .inv) in omega arith)
     (λ c. omega (arith, inside c))
     (λ c. omega (arith, inside c))
-    (λ c. run-more (c .before .before .before .before .before .loop .inv) (c .before .before .before .before .byte .ensures) (c .before .before .before .if1 .left) (c .before .before .if2 .left) (c .before .if3 .left) (c .wide .ensures))
+    loop-again
     (λ c. run-low (c .before .before .loop .inv) (c .before .byte .ensures) (c .if1 .taken))
     (λ c. run-high (c .before .before .before .loop .inv) (c .before .before .byte .ensures) (c .if2 .taken))
     (λ c. run-full (c .before .before .before .before .loop .inv) (c .if3 .taken)))
