@@ -11,6 +11,7 @@ pub empty : (queue : List ℕ) → ((i : ℕ) → entry queue i ≡ 0) → keysF
 empty queue z l w = record {
   long = l;
   whole = w;
+  small = record { below = λ i. omega (arith, z i) };
   tells = λ v h. absurd (omega (arith, z (keysFrom + v)));
   level = λ i _. rw (z i) (record { most = λ j _. omega (arith, z j); is = ((i + 1) * 8, omega arith, z ((i + 1) * 8)) });
 }

@@ -6,7 +6,7 @@ use native.Mathlib.Decide.{ℕ-discrete, decLt}
 use native.Mathlib.Omega.{arith}
 use lib.ListN.{length, set, length-set}
 use lib.Seq.{getD-set-same, set-set, set-getD}
-use Rattle.frontier.specs.Frontier.{places, keysFrom, entry, keyAt, Put, Frontier, Raises, Removes, Now}
+use Rattle.frontier.specs.Frontier.{places, keysFrom, entry, keyAt, Small, Put, Frontier, Raises, Removes, Now}
 use Rattle.frontier.specs.Groups.{Run, Regrouped, Lifted}
 use Rattle.frontier.proofs.Stores.{put-of}
 use Rattle.frontier.proofs.Level.{above₁, above₂, above₃, Levels, Due, run-group, greatest-raise, due-key, due-next, due-raise, due-top}
@@ -62,10 +62,11 @@ module _ {queue one two three queue' : List ℕ} {v key x y z : ℕ} where
           ∙ p .second .rest (keysFrom + u) (λ s. omega arith)
 
   puts-frontier : Puts queue one two three queue' v key x y z → Frontier queue → v < places
-      → (0 < key → key % places ≡ v) → Levels (entry queue') → Frontier queue'
-  puts-frontier p f b k l = record {
+      → (0 < key → key % places ≡ v) → Small queue' → Levels (entry queue') → Frontier queue'
+  puts-frontier p f b k s l = record {
     long = omega (arith, p .long, f .long);
     whole = ap (λ (n : ℕ). n % 8) (p .long) ∙ f .whole;
+    small = s;
     tells = λ u h. tells u h (ℕ-discrete u v);
     level = l;
   }
@@ -81,15 +82,15 @@ module _ {queue one two three queue' : List ℕ} {v key x y z : ℕ} where
 
 pub removed : {queue one two three queue' : List ℕ} {v x y z r : ℕ} → Removes queue v → Regrouped queue (keysFrom + v) 0 one x
     → Regrouped one (above₁ v) x two y → Regrouped two (above₂ v) y three z → Regrouped three (above₃ v) z queue' r
-    → Now queue v 0 queue' r
-removed {queue} {one} {two} {three} {queue'} {v} {x} {y} {z} {r} m g₁ g₂ g₃ g₄ =
+    → Small queue' → Now queue v 0 queue' r
+removed {queue} {one} {two} {three} {queue'} {v} {x} {y} {z} {r} m g₁ g₂ g₃ g₄ s =
     let f : Frontier queue = m .frontier in
     let b : v < places = m .placed in
     let p : Puts queue one two three queue' v 0 x y z = puts-of queue one two three (m .within) (g₁ .is) (g₂ .is) (g₃ .is) (g₄ .is) in
     let d₁ : Due (entry one) (above₁ v) x = due-next (due-key (f .level) (omega arith)) (p .first) (g₁ .greatest) (omega arith) in
     let d₂ : Due (entry two) (above₂ v) y = due-next d₁ (p .second) (g₂ .greatest) (omega arith) in
     let d₃ : Due (entry three) (above₃ v) z = due-next d₂ (p .third) (g₃ .greatest) (omega arith) in
-    let f' : Frontier queue' = puts-frontier p f b (λ h. absurd (omega arith)) (due-top d₃ (p .fourth) (omega arith)) in
+    let f' : Frontier queue' = puts-frontier p f b (λ h. absurd (omega arith)) s (due-top d₃ (p .fourth) (omega arith)) in
     let h : above₃ v / 8 ≡ 0 = omega arith in
     record { put = puts-key p b; long = p .long; frontier = f'; best = top-of f' (rw h at (g₄ .greatest)) }
 
@@ -103,8 +104,8 @@ lifted-none queue i key z e = let s : max (entry queue i) key ≡ entry queue i 
 
 pub raised : {queue one two three queue' : List ℕ} {top v key r : ℕ} → Raises queue top v key → Lifted queue (keysFrom + v) key one
     → Lifted one (above₁ v) key two → Lifted two (above₂ v) key three → Lifted three (above₃ v) key queue'
-    → r ≡ max top key → Now queue v (max (keyAt queue v) key) queue' r
-raised {queue} {one} {two} {three} {queue'} {top} {v} {key} {r} m e₁ e₂ e₃ e₄ e = go (ℕ-discrete key 0)
+    → Small queue' → r ≡ max top key → Now queue v (max (keyAt queue v) key) queue' r
+raised {queue} {one} {two} {three} {queue'} {top} {v} {key} {r} m e₁ e₂ e₃ e₄ s e = go (ℕ-discrete key 0)
   where
     f : Frontier queue
     f = m .frontier
@@ -126,7 +127,7 @@ raised {queue} {one} {two} {three} {queue'} {top} {v} {key} {r} m e₁ e₂ e₃
         record {
           put = put;
           long = p .long;
-          frontier = puts-frontier p f b tells (due-top d₃ (p .fourth) (omega arith));
+          frontier = puts-frontier p f b tells s (due-top d₃ (p .fourth) (omega arith));
           best = rw e (top-raise key (m .best) put (m .tells));
         }
       where

@@ -2,7 +2,7 @@
 use mathlib.Core.Path.{_≡_, refl, ap, _∙_}
 use mathlib.Core.Logic.{_⊎_, inl, inr}
 use mathlib.Core.List.{List}
-use Prim.Native.Nat.{ℕ, _+_, _*_, _-_, _%_, _≤_, _<_, max}
+use Prim.Native.Nat.{ℕ, _+_, _*_, _-_, _%_, _^_, _≤_, _<_, max}
 use native.Mathlib.Decide.{ℕ-discrete, decLt}
 use native.Mathlib.Omega.{arith}
 use Rattle.frontier.specs.Frontier.{places, keysFrom, entry, keyAt, Greatest, Put, Frontier, Top}
@@ -62,3 +62,11 @@ top-raise {queue} {queue'} {top} {v} key t p k = record {
     is (no l) (inl z) d = inl (omega arith)
     is (no l) (inr w) (yes e) = inr (at (omega arith) e (omega (arith, p .here, ap (keyAt queue) e)))
     is (no l) (inr w) (no e) = inr (at (omega arith) refl (p .rest (top % places) e ∙ w))
+
+-- it is small, as all are
+pub top-small : {queue : List ℕ} {top : ℕ} → Frontier queue → Top queue top → top < 2 ^ 63
+top-small {queue} {top} f t = go (t .is)
+  where
+    go : (top ≡ 0) ⊎ (keyAt queue (top % places) ≡ top) → top < 2 ^ 63
+    go (inl z) = omega arith
+    go (inr e) = omega (arith, f .small .below (keysFrom + top % places))

@@ -3,7 +3,7 @@
 use mathlib.Core.Path.{_≡_}
 use mathlib.Core.List.{List}
 use mathlib.Core.Logic.{_⊎_, _≢_}
-use Prim.Native.Nat.{ℕ, _+_, _/_, _%_, _≤_, _<_}
+use Prim.Native.Nat.{ℕ, _+_, _/_, _%_, _^_, _≤_, _<_}
 use lib.ListN.{length, getD}
 
 -- how many places a key can tell
@@ -21,6 +21,10 @@ entry queue i = getD queue i 0
 abbrev pub keyAt : List ℕ → ℕ → ℕ
 keyAt queue v = entry queue (keysFrom + v)
 
+-- every entry is below 2^63, so that two compare alike with and without a sign
+pub record Small (queue : List ℕ) : Type 0 where
+  pub below : (i : ℕ) → entry queue i < 2 ^ 63
+
 -- m is the greatest of the eight of f in group i
 pub record Greatest (f : ℕ → ℕ) (i m : ℕ) : Type 0 where
   pub most : (j : ℕ) → j / 8 ≡ i → f j ≤ m
@@ -35,6 +39,7 @@ pub record Put (f f' : ℕ → ℕ) (a x : ℕ) : Type 0 where
 pub record Frontier (queue : List ℕ) : Type 0 where
   pub long : keysFrom ≤ length queue
   pub whole : length queue % 8 ≡ 0
+  pub small : Small queue
   pub tells : (v : ℕ) → 0 < keyAt queue v → keyAt queue v % places ≡ v
   pub level : (i : ℕ) → i < keysFrom → Greatest (entry queue) (i + 1) (entry queue i)
 
@@ -48,6 +53,7 @@ pub record Raises (queue : List ℕ) (top v key : ℕ) : Type 0 where
   pub frontier : Frontier queue
   pub best : Top queue top
   pub within : keysFrom + v < length queue
+  pub key-small : key < 2 ^ 63
   pub tells : 0 < key → key % places ≡ v
 
 -- the place v may be taken out

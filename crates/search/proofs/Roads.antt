@@ -1,7 +1,7 @@
 -- One road relaxed: what its parts ask, and what they come to. Assumes nothing.
 use mathlib.Core.Path.{_≡_, ap, _∙_, subst}
 use mathlib.Core.List.{List}
-use Prim.Native.Nat.{ℕ, _+_, _%_, _≤_, _<_}
+use Prim.Native.Nat.{ℕ, _+_, _%_, _^_, _≤_, _<_}
 use native.Mathlib.Decide.{ℕ-discrete}
 use native.Mathlib.Omega.{arith}
 use Rattle.battery.specs.declared.Road.{Road}
@@ -37,13 +37,14 @@ module _ (rd : Reading) (ns rs : List ℕ) (k label : ℕ) (labels ways queue : 
         few = a .readable .few;
       }
 
-  module _ (x key : ℕ) (x-is : x ≡ stepOf (rd .sense) (rd .battery) road label) (key-is : key ≡ packed (x + psi rd ns v) v) where
+  module _ (x key : ℕ) (x-is : x ≡ stepOf (rd .sense) (rd .battery) road label) (key-is : key ≡ packed (x + psi rd ns v) v) (key-small : key < 2 ^ 63) where
     pub offer-asks : OfferAsks labels ways queue top v (record { road = k; label = x; key = key })
     offer-asks =
         record {
           sized = a .underway .sized;
           queued = a .underway .queued;
           within = omega (arith, key-asks .within, key-asks .few);
+          key-small = key-small;
           tells =
               ap (λ (n : ℕ). n % places) key-is
               ∙ packed-tells (x + psi rd ns v) v (omega (arith, key-asks .within, key-asks .few));

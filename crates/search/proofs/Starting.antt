@@ -1,7 +1,7 @@
 -- The beginning of a search: the source alone has a label, and waits. Assumes nothing.
 use mathlib.Core.Path.{_≡_, refl, ap, _∙_}
 use mathlib.Core.List.{List}
-use Prim.Native.Nat.{ℕ, _+_, _/_, _%_, _≤_, _<_, max}
+use Prim.Native.Nat.{ℕ, _+_, _/_, _%_, _^_, _≤_, _<_, max}
 use native.Mathlib.Decide.{ℕ-discrete}
 use native.Mathlib.Omega.{arith}
 use lib.ListN.{length, set, length-set}
@@ -25,12 +25,14 @@ module _ (rd : Reading) (ns rs chains : List ℕ) (trip : Trip) (labels₀ ways�
   whole : length queue₀ % 8 ≡ 0
   whole = ap (λ (n : ℕ). n % 8) (a .sized .long-queue)
 
-  pub first-raises : (key : ℕ) → key ≡ packed (trip .label + psi rd ns (trip .source)) (trip .source) → Raises queue₀ 0 (trip .source) key
-  first-raises key e =
+  pub first-raises : (key : ℕ) → key ≡ packed (trip .label + psi rd ns (trip .source)) (trip .source) → key < 2 ^ 63
+      → Raises queue₀ 0 (trip .source) key
+  first-raises key e small =
       record {
         frontier = empty queue₀ (a .no-key) (omega (arith, a .sized .long-queue)) whole;
         best = empty-top queue₀ (a .no-key);
         within = omega (arith, a .source-in, a .readable .few, a .sized .long-queue);
+        key-small = small;
         tells =
             λ _. ap (λ (n : ℕ). n % places) e
             ∙ packed-tells _ (trip .source) (omega (arith, a .source-in, a .readable .few));

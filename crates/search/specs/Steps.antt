@@ -2,7 +2,7 @@
 use mathlib.Core.Path.{_≡_}
 use mathlib.Core.List.{List}
 use mathlib.Core.Logic.{_⊎_}
-use Prim.Native.Nat.{ℕ, _+_, _*_, _/_, _%_, _≤_, _<_, max}
+use Prim.Native.Nat.{ℕ, _+_, _*_, _/_, _%_, _^_, _≤_, _<_, max}
 use lib.ListN.{length}
 use Rattle.battery.specs.Ready.{Ranged}
 use Rattle.battery.specs.Rule.{mostBattery}
@@ -70,6 +70,7 @@ pub record OfferAsks (labels ways queue : List ℕ) (top v : ℕ) (o : Offer) : 
   pub sized : Sized labels ways queue
   pub queued : Queued queue top
   pub within : v < mostJunctions
+  pub key-small : o .key < 2 ^ 63
   pub tells : o .key % places ≡ v
 
 abbrev pub Same : (ℕ → ℕ) → (ℕ → ℕ) → Type 0

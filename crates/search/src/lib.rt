@@ -1,7 +1,7 @@
 // The search for the best label of each junction, and the route that brings it. A label is a charge
 // plus one, and 0 is none.
 ghost use mathlib.Core.Path.{_≡_};
-ghost use Prim.Native.Nat.{_+_, min};
+ghost use Prim.Native.Nat.{_+_, _^_, _<_, min};
 ghost use Rattle.frontier.specs.Frontier.{entry};
 ghost use Rattle.network.specs.Files.{junctions, roadCount};
 ghost use Rattle.search.specs.Chains.{Chained, ChainAsks};
@@ -183,6 +183,7 @@ fn relax(
 fn key(nodes: &[u8], reading: Reading, v: usize, label: u32) -> u64
     requires { ⌜ KeyAsks (now nodes) v ⌝ }
     ensures { λ r. ⌜ r ≡ packed (label + psi reading (now (nodes .entry)) v) v ⌝ }
+    ensures { λ r. ⌜ r < 2 ^ 63 ⌝ }
 {
     let number = reading.psi(network::potential_at(nodes, v));
     (label as u64 + number as u64) * frontier::PLACES + v as u64

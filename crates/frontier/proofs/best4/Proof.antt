@@ -6,7 +6,10 @@ use Rattle.frontier.proofs.best4.Statement.{statement}
 use Rattle.frontier.proofs.best4.Tie as tie
 
 returns : tie.Need-returns
-returns c = run-join (c .before .before .best2 .ensures) (c .before .best22 .ensures) (c .larger .ensures) (omega arith)
+returns c =
+    let first = c .before .before .best2 .ensures in
+    let second = c .before .best22 .ensures in
+    (run-join (first .0) (second .0) (c .larger .ensures) (omega arith), omega (arith, first .1, second .1, c .larger .ensures))
 
 pub best4-spec : {M : Type 1} → statement M
 best4-spec =

@@ -10,8 +10,8 @@ returns c =
     let third = fourth .before .before .before .before in
     let second = third .before .before .before .before in
     let first = second .before .before .before .before in
-    removed (first .before .before .before .pre) (first .regroup .ensures) (second .regroup2 .ensures) (third .regroup3 .ensures)
-    (fourth .regroup4 .ensures)
+    removed (first .before .before .before .pre) (first .regroup .ensures .0) (second .regroup2 .ensures .0)
+    (third .regroup3 .ensures .0) (fourth .regroup4 .ensures .0) (fourth .regroup4 .ensures .1 .0)
 
 pub remove-spec : {M : Type 1} → statement M
 remove-spec =

@@ -34,12 +34,12 @@ key-requires c κs = source-asks _ _ _ _ _ _ _ _ (c .before .before .before .bef
 raise-requires : tie.Need-raise-requires Inv-loop μ-loop
 raise-requires c κs =
     let start = c .before .before .before .before .before .before .before .before in
-    first-raises _ _ _ _ _ _ _ _ (start .pre) _ (c .before .key .ensures)
+    first-raises _ _ _ _ _ _ _ _ (start .pre) _ (c .before .key .ensures .0) (c .before .key .ensures .1)
 
 loop-holds : tie.Need-loop-holds Inv-loop μ-loop
 loop-holds c =
     let start = c .before .before .before .before .before .before .before .before .before .before .before in
-    explore-start _ _ _ _ _ _ _ _ (start .pre) _ (c .before .before .before .before .key .ensures) _ _ (c .before .before .raise .ensures)
+    explore-start _ _ _ _ _ _ _ _ (start .pre) _ (c .before .before .before .before .key .ensures .0) _ _ (c .before .before .raise .ensures)
 
 -- ---- none waits
 

@@ -1,11 +1,10 @@
 -- `search::key` meets its contract. Assumes nothing.
 use mathlib.Core.Path.{_≡_, ap, _∙_}
-use Prim.Native.Nat.{ℕ}
+use Prim.Native.Nat.{ℕ, _+_}
 use borrow.Author.Needs.{needs}
 use Rattle.numbers.proofs.Bits.{back32}
 use Rattle.search.specs.Reading.{psiOf, psi}
 use Rattle.search.specs.Steps.{packed}
-use Prim.Native.Nat.{_+_}
 use Rattle.search.proofs.key.Statement.{statement}
 use Rattle.search.proofs.key.Tie as tie
 
@@ -14,7 +13,7 @@ returns c =
     let a = c .before .before .before .args in
     let e : c .psi .result ≡ psi (a .reading) (a .nodes .now) (a .v) =
     c .psi .ensures ∙ ap (psiOf (a .reading .sense)) (back32 (c .before .potential-at .ok) ∙ c .before .potential-at .ensures) in
-    ap (λ (n : ℕ). packed (a .label + n) (a .v)) e
+    (ap (λ (n : ℕ). packed (a .label + n) (a .v)) e, search needs)
 
 pub key-spec : {M : Type 1} → statement M
 key-spec =

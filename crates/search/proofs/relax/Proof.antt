@@ -25,7 +25,7 @@ take-requires c κs =
     let road = ends .before in
     let start = road .before .before .before .before .before .before in
     offer-asks _ _ _ _ _ _ _ _ _ (start .pre) _ _ (road .road-at .ensures) (ends .left .ensures) _ _
-    (stepped .step .ensures) (keyed .key .ensures)
+    (stepped .step .ensures) (keyed .key .ensures .0) (keyed .key .ensures .1)
 
 returns : tie.Need-returns
 returns c =
@@ -36,7 +36,7 @@ returns c =
     let road = ends .before in
     let start = road .before .before .before .before .before .before in
     relax-keeps _ _ _ _ _ _ _ _ _ (start .pre) _ _ (road .road-at .ensures) (ends .left .ensures) _ _
-    (stepped .step .ensures) (keyed .key .ensures) _ _ _ _ (took .take .ensures)
+    (stepped .step .ensures) (keyed .key .ensures .0) (keyed .key .ensures .1) _ _ _ _ (took .take .ensures)
 
 pub relax-spec : {M : Type 1} → statement M
 relax-spec =
