@@ -1,17 +1,16 @@
 -- A route gone along place by place: what is known where the van stands before place i, and how it goes on. Assumes nothing.
 use mathlib.Core.Path.{_≡_, refl, sym, ap, _∙_}
-use mathlib.Core.Bool.{Bool, true, false}
 use mathlib.Core.List.{List, [], _∷_, _++_}
 use Prim.Native.Nat.{ℕ, _+_, _-_, _≤_, _<_}
 use native.Mathlib.Numerals.{add-one}
 use native.Mathlib.Omega.{arith}
-use borrow.Author.Tests.{ltb-true, eqb-true}
+use borrow.Author.Tests.{ltb-true}
 use lib.Dec.{ltb, eqb}
 use lib.ListN.{length, take, drop, take-append-drop}
 use lib.Seq.{take-suc, take-all}
 use Rattle.battery.specs.declared.Road.{Road}
-use Rattle.network.proofs.Faults.{first-end, from-go, from-stop, from-end}
-use Rattle.network.specs.Check.{unless, first, firstFrom}
+use Rattle.network.proofs.Faults.{first-end, first-append, first-passed, unless-passed, from-go, from-stop, from-end}
+use Rattle.network.specs.Check.{unless, first, firstOf, firstFrom}
 use Rattle.network.specs.Files.{roadCount, roadOf}
 use Rattle.network.specs.Walks.{roadsOf}
 use Rattle.network.specs.declared.Refusal.{Refusal}
@@ -19,44 +18,23 @@ use Rattle.network.specs.declared.Refusal.the-variants as refusal
 use Rattle.network.specs.declared.Checked.{Checked}
 use Rattle.network.specs.declared.Checked.the-variants as checked
 use Rattle.routes.specs.Places.{entryAt, standsAt, upTo, placeFault, routeFault}
-use Rattle.routes.specs.Steps.{enters, pickEntered}
-use Rattle.routes.specs.declared.Entered.{Entered}
-use Rattle.routes.specs.declared.Entered.the-variants as entered
+use Rattle.routes.specs.Steps.{enters}
 
 -- ---- one place
 
--- what is known of a road that is entered
-pub record Enters (rs : List ℕ) (e at : ℕ) (r : Road) : Type 0 where
-  pub is-road : e < roadCount rs
-  pub road-is : roadOf rs e ≡ r
-  pub here : roadOf rs e .tail ≡ at
-
-pub entered-road : (rs : List ℕ) (e i at : ℕ) {r : Road} → enters rs e i at ≡ entered.Road r → Enters rs e at r
+-- what is entered is a road of the file
+pub is-road : (rs : List ℕ) (e i at : ℕ) → enters rs e i at ≡ checked.Passed → e < roadCount rs
 unfolding enters
-entered-road rs e i at {r} h = go (ltb e (roadCount rs)) (eqb (roadOf rs e .tail) at) refl refl h
-  where
-    go : (t u : Bool) → ltb e (roadCount rs) ≡ t → eqb (roadOf rs e .tail) at ≡ u
-        → pickEntered t (pickEntered u (entered.Road (roadOf rs e)) (entered.Refused (refusal.NotHere i))) (entered.Refused (refusal.NotRoad i)) ≡ entered.Road r
-        → Enters rs e at r
-    go true true p q k = record { is-road = ltb-true _ _ p; road-is = cc; here = eqb-true _ _ q }
-    go true false p q k = let z : _≡_ {A = ℕ} 0 1 = cc in absurd (omega arith)
-    go false u p q k = let z : _≡_ {A = ℕ} 0 1 = cc in absurd (omega arith)
+is-road rs e i at h = ltb-true _ _ (unless-passed (ltb e (roadCount rs)) (refusal.NotRoad i) (first-passed _ _ h .0))
 
--- the fault of a place goes by the road that is entered there
-abbrev faultOf : Entered → Checked → Checked
-faultOf (entered.Road r) last = last
-faultOf (entered.Refused q) last = checked.Refused q
-
-module _ (rs : List ℕ) (source : ℕ) (es : List ℕ) where
-  place-is : (i : ℕ) (last : Checked) → placeFault rs source es i last ≡ faultOf (enters rs (entryAt es i) i (standsAt rs source es i)) last
-  unfolding enters placeFault
-  place-is i last = go (ltb (entryAt es i) (roadCount rs)) (eqb (roadOf rs (entryAt es i) .tail) (standsAt rs source es i))
-    where
-      go : (t u : Bool) → first (unless t (refusal.NotRoad i)) (first (unless u (refusal.NotHere i)) (first last checked.Passed))
-          ≡ faultOf (pickEntered t (pickEntered u (entered.Road (roadOf rs (entryAt es i))) (entered.Refused (refusal.NotHere i))) (entered.Refused (refusal.NotRoad i))) last
-      go true true = first-end last
-      go true false = refl
-      go false u = refl
+-- the fault of a place: 12 or 13 before the last test
+place-is : (rs : List ℕ) (source : ℕ) (es : List ℕ) (i : ℕ) (last : Checked)
+    → placeFault rs source es i last ≡ first (enters rs (entryAt es i) i (standsAt rs source es i)) last
+unfolding enters placeFault
+place-is rs source es i last =
+    let t = unless (ltb (entryAt es i) (roadCount rs)) (refusal.NotRoad i) in
+    let u = unless (eqb (roadOf rs (entryAt es i) .tail) (standsAt rs source es i)) (refusal.NotHere i) in
+    first-append (t ∷ u ∷ []) (last ∷ []) refl ∙ ap (first (firstOf (t ∷ u ∷ []))) (first-end last)
 
 -- ---- the route
 
@@ -66,29 +44,29 @@ pub record Standing (rs : List ℕ) (source : ℕ) (es : List ℕ) (last : ℕ �
   pub faults : firstFrom (λ j. placeFault rs source es j (last j)) (length es - i) i ≡ routeFault rs source es last
 
 module _ {rs : List ℕ} {source : ℕ} {es : List ℕ} {last : ℕ → Checked} {at i : ℕ} where
-  fault-is : {x : Entered} → Standing rs source es last at i → enters rs (entryAt es i) i at ≡ x → placeFault rs source es i (last i) ≡ faultOf x (last i)
-  fault-is s h = place-is rs source es i (last i) ∙ ap (λ (v : ℕ). faultOf (enters rs (entryAt es i) i v) (last i)) (sym (s .stands)) ∙ ap (λ (y : Entered). faultOf y (last i)) h
+  fault-is : {x : Checked} → Standing rs source es last at i → enters rs (entryAt es i) i at ≡ x → placeFault rs source es i (last i) ≡ first x (last i)
+  fault-is s h = place-is rs source es i (last i) ∙ ap (λ (v : ℕ). first (enters rs (entryAt es i) i v) (last i)) (sym (s .stands)) ∙ ap (λ (y : Checked). first y (last i)) h
 
   -- a place that passes: the van stands at the road's head before the next
-  pub standing-on : {r : Road} → Standing rs source es last at i → i < length es → enters rs (entryAt es i) i at ≡ entered.Road r
-      → last i ≡ checked.Passed → Standing rs source es last (r .head) (i + 1)
-  standing-on {r} s h e l =
+  pub standing-on : Standing rs source es last at i → i < length es → enters rs (entryAt es i) i at ≡ checked.Passed
+      → last i ≡ checked.Passed → Standing rs source es last (roadOf rs (entryAt es i) .head) (i + 1)
+  standing-on s h e l =
       record {
-        stands = sym (ap (standsAt rs source es) (add-one i) ∙ ap (λ (x : Road). x .head) (entered-road rs (entryAt es i) i at e .road-is));
+        stands = sym (ap (standsAt rs source es) (add-one i));
         faults =
             sym (from-go (λ j. placeFault rs source es j (last j)) (length es) i h (fault-is s e ∙ l)) ∙ s .faults;
       }
 
   -- a place where no road is entered: 12, 13
-  pub standing-refused : {q : Refusal} → Standing rs source es last at i → i < length es → enters rs (entryAt es i) i at ≡ entered.Refused q
+  pub standing-refused : {q : Refusal} → Standing rs source es last at i → i < length es → enters rs (entryAt es i) i at ≡ checked.Refused q
       → routeFault rs source es last ≡ checked.Refused q
   standing-refused {q} s h e =
       sym (s .faults) ∙ from-stop (λ j. placeFault rs source es j (last j)) (length es) i q h (fault-is s e)
 
   -- a place where the last test fails: 14, 15
-  pub standing-last : {r : Road} {q : Refusal} → Standing rs source es last at i → i < length es → enters rs (entryAt es i) i at ≡ entered.Road r
+  pub standing-last : {q : Refusal} → Standing rs source es last at i → i < length es → enters rs (entryAt es i) i at ≡ checked.Passed
       → last i ≡ checked.Refused q → routeFault rs source es last ≡ checked.Refused q
-  standing-last {r} {q} s h e l =
+  standing-last {q} s h e l =
       sym (s .faults) ∙ from-stop (λ j. placeFault rs source es j (last j)) (length es) i q h (fault-is s e ∙ l)
 
   -- past the last place

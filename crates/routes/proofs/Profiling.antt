@@ -1,5 +1,5 @@
 -- The profile of a route, place by place: what is known on the way, and how it goes on. Assumes nothing.
-use mathlib.Core.Path.{_≡_, refl, ap, _∙_, subst}
+use mathlib.Core.Path.{_≡_, refl, ap, _∙_}
 use mathlib.Core.List.{List}
 use Prim.Native.Nat.{ℕ, _+_, _≤_, _<_}
 use native.Mathlib.Omega.{arith}
@@ -18,23 +18,21 @@ use Rattle.battery.specs.declared.Passage.{Passage}
 use Rattle.battery.specs.declared.Passage.the-variants as passage
 use Rattle.network.specs.Files.{roadOf}
 use Rattle.network.specs.Walks.{roadsOf}
+use Rattle.network.specs.declared.Checked.{Checked}
 use Rattle.network.specs.declared.Checked.the-variants as checked
 use Rattle.routes.specs.Places.{entryAt, upTo, impassableFault, profileFaults}
 use Rattle.routes.specs.Steps.{RangedRoads, Gathered, ExtendAsks, enters, onPassage, extendEntered, profilePlace}
-use Rattle.routes.specs.declared.Entered.{Entered}
-use Rattle.routes.specs.declared.Entered.the-variants as entered
 use Rattle.routes.specs.declared.ProfileStep.{ProfileStep}
 use Rattle.routes.specs.declared.ProfileStep.the-variants as profileStep
-use Rattle.routes.proofs.Places.{entered-road, Standing, standing-on, standing-refused, standing-last, standing-start, up-to-is}
+use Rattle.routes.proofs.Places.{is-road, Standing, standing-on, standing-refused, standing-last, standing-start, up-to-is}
 
 -- the profile has room for a road that is entered
-pub extends : (rs : List ℕ) (e i at : ℕ) {M : ℕ} {p : Profile} {r : Road} → ExtendAsks rs i M p → enters rs e i at ≡ entered.Road r → Extends M p r
-extends rs e i at {M} {p} {r} a h =
-    let t = entered-road rs e i at h in
+pub extends : (rs : List ℕ) (e i at : ℕ) {M : ℕ} {p : Profile} → ExtendAsks rs i M p → enters rs e i at ≡ checked.Passed → Extends M p (roadOf rs e)
+extends rs e i at a h =
     let g = a .gathered in
     let l = a .place-lt in
     record {
-      ranged = subst Ranged (t .road-is) (a .roads-ranged .ranged e (t .is-road));
+      ranged = a .roads-ranged .ranged e (is-road rs e i at h);
       battery-le = g .battery-le;
       kept = g .kept;
       sum-draw = omega arith;
@@ -63,12 +61,11 @@ Then rs source es M i (profileStep.Refused r) = profileFaults rs source es M ≡
 
 module _ (rs : List ℕ) (source : ℕ) (es : List ℕ) (M at : ℕ) (p : Profile) (i : ℕ) (u : Profiling rs source es M at p i) (h : i < length es) where
   -- the road at place i decides the last test there
-  tested : {r : Road} → enters rs (entryAt es i) i at ≡ entered.Road r → profileOf M (upTo rs es i) ≡ followedBy (passage.Passable p) (oneRoad M r)
-  tested e =
+  tested : profileOf M (upTo rs es i) ≡ followedBy (passage.Passable p) (oneRoad M (roadOf rs (entryAt es i)))
+  tested =
       ap (profileOf M) (up-to-is rs es i h)
       ∙ compose-one M (roadsOf rs (take i es)) (roadOf rs (entryAt es i))
       ∙ ap (λ (x : Passage). followedBy x (oneRoad M (roadOf rs (entryAt es i)))) (u .known)
-      ∙ ap (λ (x : Road). followedBy (passage.Passable p) (oneRoad M x)) (entered-road rs (entryAt es i) i at e .road-is)
 
   gathers : {r : Road} {q : Profile} → Ranged r → profileOf M (upTo rs es i) ≡ passage.Passable q
       → followedBy (passage.Passable p) (oneRoad M r) ≡ passage.Passable q → Gathered M (i + 1) q
@@ -79,22 +76,21 @@ module _ (rs : List ℕ) (source : ℕ) (es : List ℕ) (M at : ℕ) (p : Profil
       let n : gain (q .sum) ≡ _ = ap gain s ∙ gain-add (p .sum) (r .consumption) in
       record { battery-le = b .battery-le; kept = profile-kept M (upTo rs es i) k; draw-le = omega arith; gain-le = omega arith }
 
-  goes-on : RangedRoads rs → (r : Road) (x : Passage) → enters rs (entryAt es i) i at ≡ entered.Road r
-      → followedBy (passage.Passable p) (oneRoad M r) ≡ x → Then rs source es M i (onPassage x r i)
-  goes-on g r (passage.Passable q) e f =
-      let t = entered-road rs (entryAt es i) i at e in
-      let k : profileOf M (upTo rs es i) ≡ passage.Passable q = tested e ∙ f in
+  goes-on : RangedRoads rs → (x : Passage) → enters rs (entryAt es i) i at ≡ checked.Passed
+      → followedBy (passage.Passable p) (oneRoad M (roadOf rs (entryAt es i))) ≡ x → Then rs source es M i (onPassage x (roadOf rs (entryAt es i)) i)
+  goes-on g (passage.Passable q) e f =
+      let k : profileOf M (upTo rs es i) ≡ passage.Passable q = tested ∙ f in
       record {
         standing = standing-on (u .standing) h e (ap (impassableFault i) k);
         known = k;
-        gathered = gathers (subst Ranged (t .road-is) (g .ranged _ (t .is-road))) k f;
+        gathered = gathers (g .ranged _ (is-road rs (entryAt es i) i at e)) k f;
       }
-  goes-on g r passage.Impassable e f = standing-last (u .standing) h e (ap (impassableFault i) (tested e ∙ f))
+  goes-on g passage.Impassable e f = standing-last (u .standing) h e (ap (impassableFault i) (tested ∙ f))
 
   pub profiling-step : RangedRoads rs → Then rs source es M i (profilePlace rs (entryAt es i) i at M p)
   unfolding profilePlace
   profiling-step g = go (enters rs (entryAt es i) i at) refl
     where
-      go : (x : Entered) → enters rs (entryAt es i) i at ≡ x → Then rs source es M i (extendEntered x M p i)
-      go (entered.Road r) e = goes-on g r (followedBy (passage.Passable p) (oneRoad M r)) e refl
-      go (entered.Refused q) e = standing-refused (u .standing) h e
+      go : (x : Checked) → enters rs (entryAt es i) i at ≡ x → Then rs source es M i (extendEntered x (roadOf rs (entryAt es i)) M p i)
+      go checked.Passed e = goes-on g (followedBy (passage.Passable p) (oneRoad M (roadOf rs (entryAt es i)))) e refl
+      go (checked.Refused q) e = standing-refused (u .standing) h e

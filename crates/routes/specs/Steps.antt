@@ -1,7 +1,6 @@
 -- What the private steps of the two loops ask for and give. No promise cites this file.
 use mathlib.Core.Path.{_≡_}
-use mathlib.Core.Bool.{Bool, true, false}
-use mathlib.Core.List.{List}
+use mathlib.Core.List.{List, [], _∷_}
 use Prim.Native.Nat.{ℕ, _*_, _≤_, _<_}
 use lib.Dec.{ltb, eqb}
 use lib.ListN.{length}
@@ -17,13 +16,13 @@ use Rattle.battery.specs.declared.Road.{Road}
 use Rattle.battery.specs.declared.Van.{Van}
 use Rattle.battery.specs.declared.Drove.{Drove}
 use Rattle.battery.specs.declared.Drove.the-variants as drove
+use Rattle.network.specs.Check.{unless, firstOf}
 use Rattle.network.specs.Files.{roadCount, roadOf}
 use Rattle.network.specs.Walks.{roadsOf}
 use Rattle.network.specs.declared.Refusal.the-variants as refusal
+use Rattle.network.specs.declared.Checked.{Checked}
 use Rattle.network.specs.declared.Checked.the-variants as checked
 use Rattle.routes.specs.Places.{mostEntries, driveFaults, profileFaults}
-use Rattle.routes.specs.declared.Entered.{Entered}
-use Rattle.routes.specs.declared.Entered.the-variants as entered
 use Rattle.routes.specs.declared.DriveStep.{DriveStep}
 use Rattle.routes.specs.declared.DriveStep.the-variants as step
 use Rattle.routes.specs.declared.Driven.{Driven}
@@ -39,15 +38,11 @@ pub record RangedRoads (rs : List ℕ) : Type 0 where
 
 -- ---- 12 and 13
 
-abbrev pub pickEntered : Bool → Entered → Entered → Entered
-pickEntered true a b = a
-pickEntered false a b = b
-
-unfoldable pub enters : List ℕ → ℕ → ℕ → ℕ → Entered
+unfoldable pub enters : List ℕ → ℕ → ℕ → ℕ → Checked
 enters rs e i at =
-    pickEntered (ltb e (roadCount rs))
-    (pickEntered (eqb (roadOf rs e .tail) at) (entered.Road (roadOf rs e)) (entered.Refused (refusal.NotHere i)))
-    (entered.Refused (refusal.NotRoad i))
+    firstOf
+    (unless (ltb e (roadCount rs)) (refusal.NotRoad i) ∷
+    unless (eqb (roadOf rs e .tail) at) (refusal.NotHere i) ∷ [])
 
 -- ---- the drive
 
@@ -68,12 +63,12 @@ abbrev pub onDrove : Drove → Road → ℕ → DriveStep
 onDrove (drove.On w) r i = step.On (r .head) w
 onDrove drove.TooLow r i = step.Refused (refusal.TooLow i)
 
-abbrev pub onEntered : Entered → Van → ℕ → DriveStep
-onEntered (entered.Road r) v i = onDrove (drive v r) r i
-onEntered (entered.Refused q) v i = step.Refused q
+abbrev pub onEntered : Checked → Road → Van → ℕ → DriveStep
+onEntered checked.Passed r v i = onDrove (drive v r) r i
+onEntered (checked.Refused q) r v i = step.Refused q
 
 unfoldable pub drivePlace : List ℕ → ℕ → ℕ → ℕ → Van → DriveStep
-drivePlace rs e i at v = onEntered (enters rs e i at) v i
+drivePlace rs e i at v = onEntered (enters rs e i at) (roadOf rs e) v i
 
 pub record DriveAsks (rs es : List ℕ) (v : Van) : Type 0 where
   pub roads-ranged : RangedRoads rs
@@ -103,12 +98,12 @@ abbrev pub onPassage : Passage → Road → ℕ → ProfileStep
 onPassage (passage.Passable p) r i = profileStep.On (r .head) p
 onPassage passage.Impassable r i = profileStep.Refused (refusal.Impassable i)
 
-abbrev pub extendEntered : Entered → ℕ → Profile → ℕ → ProfileStep
-extendEntered (entered.Road r) M p i = onPassage (followedBy (passage.Passable p) (oneRoad M r)) r i
-extendEntered (entered.Refused q) M p i = profileStep.Refused q
+abbrev pub extendEntered : Checked → Road → ℕ → Profile → ℕ → ProfileStep
+extendEntered checked.Passed r M p i = onPassage (followedBy (passage.Passable p) (oneRoad M r)) r i
+extendEntered (checked.Refused q) r M p i = profileStep.Refused q
 
 unfoldable pub profilePlace : List ℕ → ℕ → ℕ → ℕ → ℕ → Profile → ProfileStep
-profilePlace rs e i at M p = extendEntered (enters rs e i at) M p i
+profilePlace rs e i at M p = extendEntered (enters rs e i at) (roadOf rs e) M p i
 
 pub record ProfileAsks (rs es : List ℕ) (M : ℕ) : Type 0 where
   pub roads-ranged : RangedRoads rs

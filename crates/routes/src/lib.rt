@@ -4,8 +4,8 @@ ghost use Rattle.routes.specs.Steps.{enters, DriveAsks, DriveKeeps, Plac
 use battery::Drove;
 use battery::Passage;
 use battery::Profile;
-use battery::Road;
 use battery::Van;
+use network::Checked;
 use network::Refusal;
 
 // The most entries of a given route.
@@ -20,12 +20,6 @@ pub enum Driven {
 // What a profile comes to: the three numbers, or the first fault.
 pub enum Profiled {
     Known(Profile),
-    Refused(Refusal),
-}
-
-// The road at a place of the route, or why the van cannot enter it.
-enum Entered {
-    Road(Road),
     Refused(Refusal),
 }
 
@@ -95,15 +89,14 @@ fn drive_place(roads: &[u8], entry: u16, i: usize, at: usize, van: Van) -> Drive
     ensures { λ r. ⌜ r ≡ drivePlace (now (roads .entry)) entry i at van ⌝ }
 {
     let entered = enter(roads, entry, i, at);
-    match entered {
-        Entered::Refused(r) => DriveStep::Refused(r),
-        Entered::Road(road) => {
-            let drove = van.drive(road);
-            match drove {
-                Drove::TooLow => DriveStep::Refused(Refusal::TooLow(i)),
-                Drove::On(next) => DriveStep::On(road.head as usize, next),
-            }
-        }
+    if let Checked::Refused(r) = entered {
+        return DriveStep::Refused(r);
+    }
+    let road = network::road_at(roads, entry as usize);
+    let drove = van.drive(road);
+    match drove {
+        Drove::TooLow => DriveStep::Refused(Refusal::TooLow(i)),
+        Drove::On(next) => DriveStep::On(road.head as usize, next),
     }
 }
 
@@ -120,29 +113,28 @@ fn profile_place(
     ensures { λ r. ⌜ r ≡ profilePlace (now (roads .entry)) entry i at battery profile ⌝ }
 {
     let entered = enter(roads, entry, i, at);
-    match entered {
-        Entered::Refused(r) => ProfileStep::Refused(r),
-        Entered::Road(road) => {
-            let passage = profile.then(battery, road);
-            match passage {
-                Passage::Impassable => ProfileStep::Refused(Refusal::Impassable(i)),
-                Passage::Passable(next) => ProfileStep::On(road.head as usize, next),
-            }
-        }
+    if let Checked::Refused(r) = entered {
+        return ProfileStep::Refused(r);
+    }
+    let road = network::road_at(roads, entry as usize);
+    let passage = profile.then(battery, road);
+    match passage {
+        Passage::Impassable => ProfileStep::Refused(Refusal::Impassable(i)),
+        Passage::Passable(next) => ProfileStep::On(road.head as usize, next),
     }
 }
 
-// The road that the entry of place i names, from the junction `at`: 12, 13.
-fn enter(roads: &[u8], entry: u16, i: usize, at: usize) -> Entered
+// Whether the entry of place i names a road from the junction `at`: 12, 13.
+fn enter(roads: &[u8], entry: u16, i: usize, at: usize) -> Checked
     ensures { λ r. ⌜ r ≡ enters (now (roads .entry)) entry i at ⌝ }
 {
     let k = entry as usize;
     if roads.len() / network::ROAD_BYTES <= k {
-        return Entered::Refused(Refusal::NotRoad(i));
+        return Checked::Refused(Refusal::NotRoad(i));
     }
     let road = network::road_at(roads, k);
     if road.tail as usize != at {
-        return Entered::Refused(Refusal::NotHere(i));
+        return Checked::Refused(Refusal::NotHere(i));
     }
-    Entered::Road(road)
+    Checked::Passed
 }
