@@ -1,0 +1,87 @@
+//! The cab program as a process, beside a program that only reads the same line and files.
+
+use crate::networks::Question;
+use crate::times::Times;
+use std::fs;
+use std::io::Write;
+use std::path::{Path, PathBuf};
+use std::process::{Command, Stdio};
+use std::time::Instant;
+
+/// How often each program is run.
+const RUNS: usize = 101;
+
+/// A folder that is removed in the end.
+struct Folder(PathBuf);
+
+/// Times both programs in turn in a folder with the files of the question, and prints a table.
+pub fn compare(question: &Question, plan: &str, reads: &str) -> Result<(), String> {
+    let folder = Folder::with(question)?;
+    let line = format!("{} {} {} {}\n", question.battery, question.start, question.source, question.target);
+    let found = |program: &str| fs::canonicalize(program).map_err(|e| format!("{program}: {e}"));
+    let programs = [found(plan)?, found(reads)?];
+    let answer = sedge::best_route(
+        question.files(),
+        question.battery,
+        question.start,
+        question.source,
+        question.target,
+        &mut question.list(),
+    );
+    let written = run(&programs[0], &folder.0, &line)?;
+    if !written.starts_with(&format!("arrival {}\n", answer.arrival)) {
+        return Err(format!("plan differs: {written}"));
+    }
+    let mut taken = [(); 2].map(|_| Vec::new());
+    for _ in 0..RUNS {
+        for (program, taken) in programs.iter().zip(&mut taken) {
+            let begun = Instant::now();
+            run(program, &folder.0, &line)?;
+            taken.push(begun.elapsed());
+        }
+    }
+    let [plan, reads] = taken.map(|taken| Times::of(&[taken]));
+    println!("The cab program as a process on full-size hill in microseconds: the median and the least of {RUNS}.");
+    println!();
+    println!("{:38} {plan}", "plan");
+    println!("{:38} {reads}", "a C program that only reads");
+    println!("{:38} {:7.2} {:7.2}", "difference", plan.median - reads.median, plan.least - reads.least);
+    Ok(())
+}
+
+/// Runs the program in the folder with this line on its standard input; what it wrote.
+fn run(program: &Path, folder: &Path, line: &str) -> Result<String, String> {
+    let failed = |e: std::io::Error| format!("{}: {e}", program.display());
+    let mut child = Command::new(program)
+        .current_dir(folder)
+        .stdin(Stdio::piped())
+        .stdout(Stdio::piped())
+        .spawn()
+        .map_err(failed)?;
+    if let Some(mut stdin) = child.stdin.take() {
+        stdin.write_all(line.as_bytes()).map_err(failed)?;
+    }
+    let output = child.wait_with_output().map_err(failed)?;
+    Ok(String::from_utf8_lossy(&output.stdout).into_owned())
+}
+
+impl Folder {
+    /// A new folder with the two files.
+    fn with(question: &Question) -> Result<Folder, String> {
+        let folder = Folder(std::env::temp_dir().join(format!("sedge-bench-{}", std::process::id())));
+        let files = question.files();
+        fs::create_dir_all(&folder.0)
+            .and_then(|()| fs::write(folder.0.join("nodes.bin"), files.nodes))
+            .and_then(|()| fs::write(folder.0.join("roads.bin"), files.roads))
+            .map_err(|e| format!("{}: {e}", folder.0.display()))?;
+        Ok(folder)
+    }
+}
+
+impl Drop for Folder {
+    fn drop(&mut self) {
+        if let Err(e) = fs::remove_dir_all(&self.0) {
+            eprintln!("{}: {e}", self.0.display());
+        }
+    }
+}

@@ -1,0 +1,34 @@
+/* The four functions of include/sedge.h on hill network H, as a C program calls them. */
+#include "sedge.h"
+
+#include <inttypes.h>
+#include <stdio.h>
+
+static const uint8_t nodes[] = {0x38, 0xff, 0xff, 0xff, 0x0c, 0xfe, 0xff, 0xff, 0, 0, 0, 0, 0, 0, 0, 0};
+static const uint8_t roads[] = {0, 0, 1, 0, 0x2c, 0x01, 0, 0, 1, 0, 2, 0, 0x0c, 0xfe, 0xff, 0xff,
+                                0, 0, 2, 0, 0x64, 0,    0, 0, 2, 0, 3, 0, 0x84, 0x03, 0,    0};
+
+int main(void)
+{
+    uint16_t route[5] = {7, 7, 7, 7, 7};
+    const uint16_t down[1] = {1};
+
+    sedge_checked checked = sedge_check(nodes, sizeof nodes, roads, sizeof roads - 1);
+    printf("%" PRIu64 " %" PRIu64 "\n", checked.number, checked.place);
+
+    sedge_planned planned = sedge_best_route(nodes, sizeof nodes, roads, sizeof roads, 1000, 900, 0, 3, route, 5);
+    printf("%" PRIu64 " %" PRIu64 " %" PRIu64 " %" PRIu64 " %" PRIu64 " %" PRIu64 " %" PRIu64 ":", planned.number,
+           planned.place, planned.roads, planned.arrival, planned.drawn, planned.recovered, planned.spilled);
+    for (int i = 0; i < 5; i++)
+        printf(" %d", route[i]);
+    printf("\n");
+
+    sedge_driven driven = sedge_drive(nodes, sizeof nodes, roads, sizeof roads, 1000, 1000, 1, down, 1);
+    printf("%" PRIu64 " %" PRIu64 " %" PRIu64 " %" PRIu64 " %" PRIu64 " %" PRIu64 "\n", driven.number, driven.place,
+           driven.arrival, driven.drawn, driven.recovered, driven.spilled);
+
+    sedge_profiled profiled = sedge_profile(nodes, sizeof nodes, roads, sizeof roads, 1000, 1, down, 1);
+    printf("%" PRIu64 " %" PRIu64 " %" PRIu64 " %" PRId64 " %" PRIu64 "\n", profiled.number, profiled.place,
+           profiled.need, profiled.sum, profiled.top);
+    return 0;
+}

@@ -1,0 +1,559 @@
+//! The cab program as a process: what it writes for each line and each pair of files, to the byte.
+
+use sedge::generate::{self, hill_network, nodes_file, roads_file, Record};
+use sedge::model::{self, Query, Refusal};
+use sedge::Planned;
+use std::fs::{self, File, Permissions};
+use std::io::{Read, Write};
+use std::os::unix::fs::{symlink, PermissionsExt};
+use std::path::{Path, PathBuf};
+use std::process::{Child, ChildStdin, Command, ExitStatus, Stdio};
+use std::sync::atomic::{AtomicU64, Ordering};
+use std::thread::{self, JoinHandle};
+use std::time::{Duration, Instant};
+
+const LEAST_CASES: usize = 60;
+const LONGEST_WAIT: Duration = Duration::from_secs(10);
+
+/// Refusal 6 is not among these cases: the program lends a list with room for every network that it can read.
+#[test]
+fn outputs_are_exact() {
+    let groups =
+        [rows(), lines_that_are_bad(), lines_that_are_good(), files_that_cannot_be_read(), lengths(), faults()];
+    let cases: Vec<Case> = groups.into_iter().flatten().collect();
+    let failures: Vec<String> = cases.iter().filter_map(failure_of).collect();
+    println!("{} cases", cases.len());
+    assert!(cases.len() >= LEAST_CASES, "{} cases", cases.len());
+    assert!(failures.is_empty(), "{} of {} cases:\n{}", failures.len(), cases.len(), failures.join("\n"));
+}
+
+/// The van's computer may keep the pipe open: the answer comes with the line, not with the end of the input.
+#[test]
+fn answers_while_the_input_stays_open() {
+    let asked: [(&str, &[&[u8]], &str); 5] = [
+        ("a good line", &[b"1000 900 0 3\n"], WORKED),
+        ("a good line in pieces", &[b"10", b"00 900", b" ", b"0 3", b"\n"], WORKED),
+        ("a good line and more", &[b"1000 900 0 3\n", b"1000 700"], WORKED),
+        ("a bad line", &[b"1000 900 0 x\n"], BAD_QUERY),
+        ("a refused line", &[b"1000 699 0 3\n"], "refused 10 0\n"),
+    ];
+    for (name, pieces, expected) in asked {
+        let folder = Folder::new(&hill_nodes(), &hill_roads());
+        let output = run(&folder.path, pieces, Input::StaysOpen).unwrap_or_else(|fault| panic!("{name}: {fault}"));
+        assert_eq!(output, Output::written(expected), "{name}");
+    }
+}
+
+/// Seeded networks, sound and spoilt, and some of full size: refusals as the model tells them, routes as good as the
+/// model's and driven to the numbers written.
+#[test]
+fn seeded_networks_are_answered_as_by_the_model() {
+    let (mut arrived, mut refused, mut longest) = (0, 0, 0);
+    for case in (0..240).map(generate::case).chain((0..12).map(generate::full_size)) {
+        let Some(line) = line_of(case.query) else { continue };
+        let folder = Folder::new(&Content::Bytes(case.nodes.clone()), &Content::Bytes(case.roads.clone()));
+        let output =
+            run(&folder.path, &[line.as_bytes()], Input::Ends).unwrap_or_else(|fault| panic!("{fault}\n{case}"));
+        assert_eq!((output.errors.as_str(), output.success), ("", true), "{case}");
+        match model::best_arrival(case.files(), case.query, model::MOST_JUNCTIONS) {
+            Err(Refusal { number, place }) => {
+                refused += 1;
+                assert_eq!(output.text, format!("refused {number} {place}\n"), "{case}");
+            }
+            Ok(arrival) => {
+                arrived += 1;
+                let (planned, route) = read_answer(&output.text).unwrap_or_else(|| panic!("{}\n{case}", output.text));
+                let network = model::sound_network(case.files()).expect("the model found a route");
+                longest = longest.max(route.len());
+                assert_eq!(planned.arrival as i64, arrival, "{case}");
+                assert_eq!(model::fault_of_route(&network, case.query, planned, &route), None, "{case}");
+            }
+        }
+    }
+    println!("{arrived} routes, {refused} refusals, longest route {longest} roads");
+    assert!(arrived >= 100, "{arrived} routes");
+    assert!(refused >= 20, "{refused} refusals");
+    assert_eq!(longest, model::MOST_JUNCTIONS - 1, "the longest route there can be");
+}
+
+const WORKED: &str = "arrival 100\ndrawn 1200\nrecovered 500\nspilled 100\nroads 3\n0\n1\n3\n";
+const BAD_QUERY: &str = "bad query\n";
+const NO_FILE: &str = "no file\n";
+
+/// What stands under a file's name in the folder.
+#[derive(Clone, Debug)]
+enum Content {
+    Bytes(Vec<u8>),
+    /// So many bytes 0.
+    Zeros(u64),
+    Missing,
+    Directory,
+    /// A link to nothing.
+    DanglingLink,
+    /// A file without permission to read it.
+    Forbidden(Vec<u8>),
+    /// A link to a file that never ends.
+    Endless,
+}
+
+/// One run of the program and what it must write.
+struct Case {
+    name: String,
+    nodes: Content,
+    roads: Content,
+    input: Vec<u8>,
+    expected: String,
+}
+
+/// A case on hill network H.
+fn on_hill(name: &str, input: &[u8], expected: &str) -> Case {
+    with_files(name, hill_nodes(), hill_roads(), input, expected)
+}
+
+fn with_files(name: &str, nodes: Content, roads: Content, input: &[u8], expected: &str) -> Case {
+    Case { name: name.to_string(), nodes, roads, input: input.to_vec(), expected: expected.to_string() }
+}
+
+fn hill_nodes() -> Content {
+    Content::Bytes(nodes_file(&hill_network().0))
+}
+
+fn hill_roads() -> Content {
+    Content::Bytes(roads_file(&hill_network().1))
+}
+
+/// H's junction file, cut or filled up with zeros to this length.
+fn hill_nodes_of(length: usize) -> Content {
+    let mut bytes = nodes_file(&hill_network().0);
+    bytes.resize(length, 0);
+    Content::Bytes(bytes)
+}
+
+/// H's road file, cut or filled up with zeros to this length.
+fn hill_roads_of(length: usize) -> Content {
+    let mut bytes = roads_file(&hill_network().1);
+    bytes.resize(length, 0);
+    Content::Bytes(bytes)
+}
+
+/// The text of an answer.
+fn answer([arrival, drawn, recovered, spilled]: [u64; 4], route: &[u16]) -> String {
+    let mut text = format!("arrival {arrival}\ndrawn {drawn}\nrecovered {recovered}\nspilled {spilled}\n");
+    text += &format!("roads {}\n", route.len());
+    for road in route {
+        text += &format!("{road}\n");
+    }
+    text
+}
+
+/// The rows of document 01 that ask for a best route, and the same of its other rows as far as a line can ask them.
+fn rows() -> Vec<Case> {
+    let mut cases = vec![
+        on_hill("start 900, 0 to 3", b"1000 900 0 3\n", WORKED),
+        on_hill("start 700, 0 to 3", b"1000 700 0 3\n", &answer([0, 1200, 500, 0], &[0, 1, 3])),
+        on_hill("start 699, 0 to 3", b"1000 699 0 3\n", "refused 10 0\n"),
+        on_hill("start 300, 0 to 2", b"1000 300 0 2\n", &answer([500, 300, 500, 0], &[0, 1])),
+        on_hill("start 299, 0 to 2", b"1000 299 0 2\n", &answer([199, 100, 0, 0], &[2])),
+        on_hill("start 100, 0 to 2", b"1000 100 0 2\n", &answer([0, 100, 0, 0], &[2])),
+        on_hill("start 99, 0 to 2", b"1000 99 0 2\n", "refused 10 0\n"),
+        on_hill("start 0, 1 to 1", b"1000 0 1 1\n", &answer([0, 0, 0, 0], &[])),
+        on_hill("start 1,000, 1 to 1", b"1000 1000 1 1\n", &answer([1000, 0, 0, 0], &[])),
+        on_hill("battery 1,100, start 900, 0 to 3", b"1100 900 0 3\n", &answer([200, 1200, 500, 0], &[0, 1, 3])),
+        on_hill("battery 899, start 899, 0 to 3", b"899 899 0 3\n", "refused 10 0\n"),
+        on_hill("start 1,000, 1 to 2", b"1000 1000 1 2\n", &answer([1000, 0, 500, 500], &[1])),
+        on_hill("start 1,000, 3 to 0", b"1000 1000 3 0\n", "refused 10 0\n"),
+    ];
+    let one_road = |name: &str, potentials: &[i32], consumption: i32, line: &[u8], expected: &str| {
+        let roads = roads_file(&[Record { tail: 0, head: 1, consumption }]);
+        with_files(name, Content::Bytes(nodes_file(potentials)), Content::Bytes(roads), line, expected)
+    };
+    let dearest = answer([0, 200_000_000, 0, 0], &[0]);
+    let line = b"200000000 200000000 0 1\n";
+    cases.push(one_road("consumption 200,000,000", &[0, 0], 200_000_000, line, &dearest));
+    cases.push(one_road("consumption 200,000,001", &[0, 0], 200_000_001, line, "refused 8 0\n"));
+    cases.push(one_road("potentials leave 0", &[-200, -500], 300, b"400 300 0 1\n", &answer([0, 300, 0, 0], &[0])));
+    cases.push(one_road("potentials leave -1", &[-200, -500], 299, b"400 300 0 1\n", "refused 9 0\n"));
+    let one_junction = Content::Bytes(nodes_file(&[7]));
+    let alone = answer([3, 0, 0, 0], &[]);
+    cases.push(with_files("one junction, no roads", one_junction, hill_roads_of(0), b"10 3 0 0\n", &alone));
+    cases
+}
+
+fn lines_that_are_bad() -> Vec<Case> {
+    let long_number = [b"0".repeat(10_000).as_slice(), b" 900 0 3\n"].concat();
+    let long_line = [b"1000 900 0 3".as_slice(), &b" ".repeat(10_000), b"\n"].concat();
+    let lines: Vec<(&str, &[u8])> = vec![
+        ("empty input", b""),
+        ("no newline", b"1000 900 0 3"),
+        ("no newline after ten digits", b"1000 900 0 0000000003"),
+        ("CR LF", b"1000 900 0 3\r\n"),
+        ("CR alone", b"1000 900 0 3\r"),
+        ("leading space", b" 1000 900 0 3\n"),
+        ("trailing space", b"1000 900 0 3 \n"),
+        ("two spaces", b"1000  900 0 3\n"),
+        ("two spaces before the last", b"1000 900 0  3\n"),
+        ("tab between", b"1000\t900 0 3\n"),
+        ("tab at the end", b"1000 900 0 3\t\n"),
+        ("vertical tab between", b"1000 900\x0b0 3\n"),
+        ("plus sign", b"+1000 900 0 3\n"),
+        ("plus sign before the last", b"1000 900 0 +3\n"),
+        ("minus sign", b"1000 -1 0 3\n"),
+        ("minus zero", b"1000 900 -0 3\n"),
+        ("letters", b"battery start source target\n"),
+        ("letter after a digit", b"1000 900 0 3x\n"),
+        ("hexadecimal", b"0x3e8 900 0 3\n"),
+        ("hexadecimal digit", b"1000 900 0 a\n"),
+        ("decimal point", b"1000.0 900 0 3\n"),
+        ("exponent", b"1e3 900 0 3\n"),
+        ("comma", b"1,000 900 0 3\n"),
+        ("commas between", b"1000,900,0,3\n"),
+        ("underscore", b"1_000 900 0 3\n"),
+        ("byte before the digits", b"1000 900 0 /\n"),
+        ("byte after the digits", b"1000 900 0 :\n"),
+        ("no number", b"   \n"),
+        ("one number", b"1000\n"),
+        ("three numbers", b"1000 900 0\n"),
+        ("three numbers and a space", b"1000 900 0 \n"),
+        ("five numbers", b"1000 900 0 3 3\n"),
+        ("eleven digits of battery", b"00000001000 900 0 3\n"),
+        ("eleven digits of start", b"1000 00000000900 0 3\n"),
+        ("eleven digits of source", b"1000 900 00000000000 3\n"),
+        ("eleven digits of target", b"1000 900 0 00000000003\n"),
+        ("twenty digits", b"18446744073709552616 900 0 3\n"),
+        ("empty line", b"\n"),
+        ("empty line before a good one", b"\n1000 900 0 3\n"),
+        ("bad line before a good one", b"plan\n1000 900 0 3\n"),
+        ("newline amid the numbers", b"1000 900\n0 3\n"),
+        ("zero byte first", b"\x001000 900 0 3\n"),
+        ("zero byte between", b"1000\x00900 0 3\n"),
+        ("zero byte before the newline", b"1000 900 0 3\x00\n"),
+        ("zero byte for a newline", b"1000 900 0 3\x00"),
+        ("byte order mark", b"\xef\xbb\xbf1000 900 0 3\n"),
+        ("superscript digit", b"1000 900 0 \xb3\n"),
+        ("digits of another script", "1000 900 0 ٣\n".as_bytes()),
+        ("wide digits", "1000 900 0 ３\n".as_bytes()),
+        ("space that does not break", "1000\u{a0}900 0 3\n".as_bytes()),
+        ("digit with its top bit set", b"1000 900 0 \xb0\n"),
+        ("a number of 10,000 digits", &long_number),
+        ("a line of 10,000 bytes", &long_line),
+    ];
+    let no_end = b"1".repeat(1 << 20);
+    let mut cases: Vec<Case> = lines.iter().map(|(name, line)| on_hill(name, line, BAD_QUERY)).collect();
+    cases.push(on_hill("1 MB without a newline", &no_end, BAD_QUERY));
+    let missing = || Content::Missing;
+    cases.push(with_files("bad line, no files", missing(), missing(), b"1000 900 0\n", BAD_QUERY));
+    cases.push(with_files("empty input, no files", missing(), missing(), b"", BAD_QUERY));
+    cases.push(with_files("bad line, directories", Content::Directory, Content::Directory, b"x\n", BAD_QUERY));
+    cases.push(with_files("bad line, empty nodes.bin", hill_nodes_of(0), hill_roads(), b"x\n", BAD_QUERY));
+    cases
+}
+
+fn lines_that_are_good() -> Vec<Case> {
+    let worked = b"1000 900 0 3\n";
+    let followed_by = |rest: &[u8]| [worked.as_slice(), rest].concat();
+    let full = answer([199_999_100, 1200, 500, 200], &[0, 1, 3]);
+    vec![
+        on_hill("leading zeros", b"01000 0900 00 03\n", WORKED),
+        on_hill("leading zeros up to ten digits", b"0000001000 0000000900 0000000000 0000000003\n", WORKED),
+        on_hill("the largest battery", b"200000000 200000000 0 3\n", &full),
+        on_hill("the largest battery with zeros", b"0200000000 0200000000 0 3\n", &full),
+        on_hill("the smallest battery", b"1 1 1 2\n", &answer([1, 0, 500, 500], &[1])),
+        on_hill("battery 0", b"0 0 0 3\n", "refused 3 0\n"),
+        on_hill("battery 0 in ten digits", b"0000000000 0 0 3\n", "refused 3 0\n"),
+        on_hill("battery 200,000,001", b"200000001 900 0 3\n", "refused 3 0\n"),
+        on_hill("battery 1,000 above 32 bits", b"4294968296 900 0 3\n", "refused 3 0\n"),
+        on_hill("battery of ten nines", b"9999999999 900 0 3\n", "refused 3 0\n"),
+        on_hill("start above the battery", b"1000 1001 0 3\n", "refused 4 0\n"),
+        on_hill("start 0 above 32 bits", b"1000 4294967296 0 3\n", "refused 4 0\n"),
+        on_hill("start 900 above 32 bits", b"1000 4294968196 0 3\n", "refused 4 0\n"),
+        on_hill("start of ten nines", b"1000 9999999999 0 3\n", "refused 4 0\n"),
+        on_hill("source is one too many", b"1000 900 4 3\n", "refused 5 0\n"),
+        on_hill("target is one too many", b"1000 900 0 4\n", "refused 5 0\n"),
+        on_hill("source 0 above 16 bits", b"1000 900 65536 3\n", "refused 5 0\n"),
+        on_hill("target 3 above 16 bits", b"1000 900 0 65539\n", "refused 5 0\n"),
+        on_hill("source 0 above 32 bits", b"1000 900 4294967296 3\n", "refused 5 0\n"),
+        on_hill("target 3 above 32 bits", b"1000 900 0 4294967299\n", "refused 5 0\n"),
+        on_hill("source of ten nines", b"1000 900 9999999999 3\n", "refused 5 0\n"),
+        on_hill("target of ten nines", b"1000 900 0 9999999999\n", "refused 5 0\n"),
+        on_hill("ten nines everywhere", b"9999999999 9999999999 9999999999 9999999999\n", "refused 3 0\n"),
+        on_hill("start before source", b"1000 1001 4 4\n", "refused 4 0\n"),
+        on_hill("text after the line", &followed_by(b"and so on"), WORKED),
+        on_hill("a second line", &followed_by(b"1000 300 0 2\n"), WORKED),
+        on_hill("an empty second line", &followed_by(b"\n"), WORKED),
+        on_hill("bytes of all kinds after the line", &followed_by(&[0, 255, 13, 10, 128, 0]), WORKED),
+        on_hill("1 MB after the line", &followed_by(&b"\x00\xff1 ".repeat(1 << 18)), WORKED),
+    ]
+}
+
+fn files_that_cannot_be_read() -> Vec<Case> {
+    let line = b"1000 900 0 3\n";
+    let mut cases = Vec::new();
+    for (name, content) in [
+        ("is missing", Content::Missing),
+        ("is a directory, which opens and cannot be read", Content::Directory),
+        ("links to nothing", Content::DanglingLink),
+    ] {
+        cases.push(with_files(&format!("nodes.bin {name}"), content.clone(), hill_roads(), line, NO_FILE));
+        cases.push(with_files(&format!("roads.bin {name}"), hill_nodes(), content.clone(), line, NO_FILE));
+        cases.push(with_files(&format!("each file {name}"), content.clone(), content, line, NO_FILE));
+    }
+    if permissions_bind() {
+        let (nodes, roads) = (nodes_file(&hill_network().0), roads_file(&hill_network().1));
+        cases.push(with_files("nodes.bin is forbidden", Content::Forbidden(nodes), hill_roads(), line, NO_FILE));
+        cases.push(with_files("roads.bin is forbidden", hill_nodes(), Content::Forbidden(roads), line, NO_FILE));
+    } else {
+        println!("left out: a file without permission to read, because this user may read every file");
+    }
+    let missing = || Content::Missing;
+    cases.push(with_files("nodes.bin empty, roads.bin missing", hill_nodes_of(0), missing(), line, NO_FILE));
+    cases.push(with_files("nodes.bin missing, roads.bin odd", missing(), hill_roads_of(31), line, NO_FILE));
+    cases.push(with_files("nodes.bin far over, roads.bin missing", Content::Zeros(10 << 20), missing(), line, NO_FILE));
+    cases.push(with_files("bad battery, roads.bin missing", hill_nodes(), missing(), b"0 0 0 0\n", NO_FILE));
+    cases
+}
+
+/// Does a file without permission to read refuse this user? It does not refuse root.
+fn permissions_bind() -> bool {
+    let folder = Folder::new(&Content::Forbidden(vec![1]), &Content::Missing);
+    File::open(folder.path.join("nodes.bin")).is_err()
+}
+
+/// Files of all lengths around their limits.
+fn lengths() -> Vec<Case> {
+    let line = b"1000 900 0 3\n";
+    let still = answer([5, 0, 0, 0], &[]);
+    let mut cases = vec![
+        with_files("nodes.bin is empty", hill_nodes_of(0), hill_roads(), line, "refused 1 0\n"),
+        with_files("both are empty", hill_nodes_of(0), hill_roads_of(0), line, "refused 1 0\n"),
+        with_files("roads.bin is empty", hill_nodes(), hill_roads_of(0), line, "refused 10 0\n"),
+        with_files("no roads are needed", hill_nodes(), hill_roads_of(0), b"9 5 2 2\n", &still),
+        with_files("nodes.bin less a byte", hill_nodes_of(15), hill_roads(), line, "refused 1 0\n"),
+        with_files("nodes.bin and a byte", hill_nodes_of(17), hill_roads(), line, "refused 1 0\n"),
+        with_files("roads.bin less a byte", hill_nodes(), hill_roads_of(31), line, "refused 2 0\n"),
+        with_files("roads.bin and a byte", hill_nodes(), hill_roads_of(33), line, "refused 2 0\n"),
+        with_files("roads.bin less half a record", hill_nodes(), hill_roads_of(28), line, "refused 2 0\n"),
+        with_files("both less a byte", hill_nodes_of(15), hill_roads_of(31), line, "refused 1 0\n"),
+        with_files("2 before 3", hill_nodes(), hill_roads_of(31), b"0 0 0 3\n", "refused 2 0\n"),
+    ];
+    let (junctions, roads) = (model::MOST_JUNCTIONS as u64, model::MOST_ROADS as u64);
+    // Files of zeros: junctions of potential 0, roads from junction 0 to itself that cost nothing.
+    let around = answer([900, 0, 0, 0], &[]);
+    for (name, nodes, roads, expected) in [
+        ("both at their limits", 4 * junctions, 8 * roads, around.as_str()),
+        ("nodes.bin a byte over", 4 * junctions + 1, 8 * roads, "refused 1 0\n"),
+        ("nodes.bin a record over", 4 * junctions + 4, 8 * roads, "refused 1 0\n"),
+        ("nodes.bin far over", 10 << 20, 8 * roads, "refused 1 0\n"),
+        ("nodes.bin at 4,294,967,300 bytes", (1 << 32) + 4, 8 * roads, "refused 1 0\n"),
+        ("roads.bin a byte over", 4 * junctions, 8 * roads + 1, "refused 2 0\n"),
+        ("roads.bin a record over", 4 * junctions, 8 * roads + 8, "refused 2 0\n"),
+        ("roads.bin far over", 4 * junctions, 10 << 20, "refused 2 0\n"),
+        ("roads.bin at 4,294,967,304 bytes", 4 * junctions, (1 << 32) + 8, "refused 2 0\n"),
+        ("both far over", 10 << 20, 10 << 20, "refused 1 0\n"),
+    ] {
+        cases.push(with_files(name, Content::Zeros(nodes), Content::Zeros(roads), b"1000 900 0 0\n", expected));
+    }
+    let limit = || Content::Zeros(4 * junctions);
+    cases.push(with_files("the last junction", limit(), hill_roads_of(0), b"9 5 2047 2047\n", &still));
+    cases.push(with_files("one past the last junction", limit(), hill_roads_of(0), b"9 5 0 2048\n", "refused 5 0\n"));
+    cases.push(with_files("nodes.bin never ends", Content::Endless, hill_roads(), line, "refused 1 0\n"));
+    cases.push(with_files("roads.bin never ends", hill_nodes(), Content::Endless, line, "refused 2 0\n"));
+    cases
+}
+
+/// Faults of records, alone and before or after other faults.
+fn faults() -> Vec<Case> {
+    let (potentials, good) = hill_network();
+    let nodes = || Content::Bytes(nodes_file(&potentials));
+    let with_records = |changes: &[(usize, Record)]| {
+        let mut roads = good.clone();
+        for &(number, record) in changes {
+            roads[number] = record;
+        }
+        Content::Bytes(roads_file(&roads))
+    };
+    let no_tail = Record { tail: 4, head: 2, consumption: 100 };
+    let no_head = Record { tail: 0, head: 65_535, consumption: 100 };
+    let too_dear = Record { tail: 1, head: 2, consumption: 200_000_001 };
+    let too_cheap = Record { tail: 1, head: 2, consumption: -200_000_001 };
+    let gains = Record { tail: 2, head: 2, consumption: -1 };
+    let dear_and_nowhere = Record { tail: 4, head: 4, consumption: i32::MAX };
+    let cheap_and_gains = Record { tail: 2, head: 2, consumption: i32::MIN };
+    let line = b"1000 900 0 3\n";
+    let mut many = vec![Record { tail: 0, head: 0, consumption: 0 }; model::MOST_ROADS];
+    many[model::MOST_ROADS - 1] = gains;
+    let longest = Content::Bytes(roads_file(&many));
+    vec![
+        with_files("tail is no junction", nodes(), with_records(&[(2, no_tail)]), line, "refused 7 2\n"),
+        with_files("head is no junction", nodes(), with_records(&[(3, no_head)]), line, "refused 7 3\n"),
+        with_files("consumption too high", nodes(), with_records(&[(1, too_dear)]), line, "refused 8 1\n"),
+        with_files("consumption too low", nodes(), with_records(&[(1, too_cheap)]), line, "refused 8 1\n"),
+        with_files("potential fails", nodes(), with_records(&[(0, gains)]), line, "refused 9 0\n"),
+        with_files("7 and 8 in one record", nodes(), with_records(&[(1, dear_and_nowhere)]), line, "refused 7 1\n"),
+        with_files("8 and 9 in one record", nodes(), with_records(&[(1, cheap_and_gains)]), line, "refused 8 1\n"),
+        with_files("9, then 7", nodes(), with_records(&[(1, gains), (2, no_tail)]), line, "refused 9 1\n"),
+        with_files("9 though no road leads there", nodes(), with_records(&[(1, gains)]), b"9 9 3 0\n", "refused 9 1\n"),
+        with_files("9 though source is target", nodes(), with_records(&[(1, gains)]), b"9 9 0 0\n", "refused 9 1\n"),
+        with_files("5 before 9", nodes(), with_records(&[(1, gains)]), b"9 9 0 4\n", "refused 5 0\n"),
+        with_files("the last of 8,192 records", nodes(), longest, line, "refused 9 8191\n"),
+    ]
+}
+
+/// What is wrong with a case, if anything: its name, its line and both texts.
+fn failure_of(case: &Case) -> Option<String> {
+    let folder = Folder::new(&case.nodes, &case.roads);
+    let before = folder.names();
+    let given = run(&folder.path, &[&case.input], Input::Ends);
+    if given == Ok(Output::written(&case.expected)) && folder.names() == before {
+        return None;
+    }
+    let shown = String::from_utf8_lossy(&case.input[..case.input.len().min(80)]).into_owned();
+    let (name, expected) = (&case.name, &case.expected);
+    Some(format!("{name}, line {shown:?}:\n  given    {given:?}, files {:?}\n  expected {expected:?}", folder.names()))
+}
+
+/// A folder of its own for one run, removed after it.
+struct Folder {
+    path: PathBuf,
+}
+
+impl Folder {
+    fn new(nodes: &Content, roads: &Content) -> Folder {
+        static FOLDERS: AtomicU64 = AtomicU64::new(0);
+        let number = FOLDERS.fetch_add(1, Ordering::Relaxed);
+        let path = std::env::temp_dir().join(format!("sedge-program-{}-{number}", std::process::id()));
+        fs::create_dir(&path).expect("a new folder for temporary files");
+        put(&path.join("nodes.bin"), nodes);
+        put(&path.join("roads.bin"), roads);
+        Folder { path }
+    }
+
+    fn names(&self) -> Vec<String> {
+        let entries = fs::read_dir(&self.path).expect("the folder of a run");
+        let mut names: Vec<String> =
+            entries.map(|entry| entry.expect("an entry").file_name().to_string_lossy().into_owned()).collect();
+        names.sort();
+        names
+    }
+}
+
+impl Drop for Folder {
+    fn drop(&mut self) {
+        fs::remove_dir_all(&self.path).expect("the folder of a run can be removed");
+    }
+}
+
+fn put(path: &Path, content: &Content) {
+    let done = match content {
+        Content::Bytes(bytes) => fs::write(path, bytes),
+        Content::Zeros(length) => File::create(path).and_then(|file| file.set_len(*length)),
+        Content::Missing => Ok(()),
+        Content::Directory => fs::create_dir(path),
+        Content::DanglingLink => symlink("nothing.bin", path),
+        Content::Forbidden(bytes) => {
+            fs::write(path, bytes).and_then(|()| fs::set_permissions(path, Permissions::from_mode(0o000)))
+        }
+        Content::Endless => symlink("/dev/zero", path),
+    };
+    done.unwrap_or_else(|fault| panic!("{}: {fault}", path.display()));
+}
+
+/// Whether the program's input ends after what was written, or stays open until the program has ended.
+#[derive(Clone, Copy, PartialEq, Eq)]
+enum Input {
+    Ends,
+    StaysOpen,
+}
+
+/// What a run wrote, and whether it ended with success.
+#[derive(Debug, PartialEq, Eq)]
+struct Output {
+    text: String,
+    errors: String,
+    success: bool,
+}
+
+impl Output {
+    /// A run that ended well and wrote this text alone.
+    fn written(text: &str) -> Output {
+        Output { text: text.to_string(), errors: String::new(), success: true }
+    }
+}
+
+fn program() -> PathBuf {
+    let path = Path::new(env!("CARGO_MANIFEST_DIR")).join("../target/bin/plan");
+    path.canonicalize().unwrap_or_else(|_| panic!("target/bin/plan is not built: run rt check plan"))
+}
+
+/// Runs the program in a folder on an input that comes in these pieces. It must end in time.
+fn run(folder: &Path, pieces: &[&[u8]], input: Input) -> Result<Output, String> {
+    let mut command = Command::new(program());
+    command.current_dir(folder).stdin(Stdio::piped()).stdout(Stdio::piped()).stderr(Stdio::piped());
+    let mut child = command.spawn().expect("the program starts");
+    let stdin = child.stdin.take().expect("its input is a pipe");
+    let text = all_of(child.stdout.take().expect("its output is a pipe"));
+    let errors = all_of(child.stderr.take().expect("its errors are a pipe"));
+    let pieces: Vec<Vec<u8>> = pieces.iter().map(|piece| piece.to_vec()).collect();
+    let writer = thread::spawn(move || write_pieces(stdin, &pieces, input));
+    let ended = end_of(&mut child);
+    writer.join().expect("the writer ends once the program has");
+    let success = ended?.success();
+    let text = text.join().expect("the output is read");
+    let errors = errors.join().expect("the errors are read");
+    Ok(Output { text, errors, success })
+}
+
+/// How the program ended; where it takes too long it is stopped, which is a fault.
+fn end_of(child: &mut Child) -> Result<ExitStatus, String> {
+    let began = Instant::now();
+    while began.elapsed() < LONGEST_WAIT {
+        if let Some(status) = child.try_wait().expect("its end can be asked for") {
+            return Ok(status);
+        }
+        thread::sleep(Duration::from_millis(1));
+    }
+    child.kill().expect("the program can be stopped");
+    child.wait().expect("the program has been stopped");
+    Err(format!("the program did not end within {LONGEST_WAIT:?}"))
+}
+
+/// Writes the pieces with a pause between them and gives the input back if it is to stay open. The program may have
+/// ended before it has read all: that is no fault.
+fn write_pieces(mut stdin: ChildStdin, pieces: &[Vec<u8>], input: Input) -> Option<ChildStdin> {
+    for (number, piece) in pieces.iter().enumerate() {
+        if number > 0 {
+            thread::sleep(Duration::from_millis(50));
+        }
+        if stdin.write_all(piece).and_then(|()| stdin.flush()).is_err() {
+            break;
+        }
+    }
+    (input == Input::StaysOpen).then_some(stdin)
+}
+
+/// Everything that comes out of a pipe until it closes, as text.
+fn all_of(mut pipe: impl Read + Send + 'static) -> JoinHandle<String> {
+    thread::spawn(move || {
+        let mut bytes = Vec::new();
+        pipe.read_to_end(&mut bytes).expect("the pipe can be read");
+        String::from_utf8_lossy(&bytes).into_owned()
+    })
+}
+
+/// The line that asks this question, where ten digits can hold its numbers.
+fn line_of(query: Query) -> Option<String> {
+    let Query { battery, start, source, target } = query;
+    let fits = |number: i128| (0..=9_999_999_999).contains(&number);
+    let all_fit = fits(battery.into()) && fits(start.into()) && fits(source.into()) && fits(target.into());
+    all_fit.then(|| format!("{battery} {start} {source} {target}\n"))
+}
+
+/// The numbers and the route of an answer that is written just as document 01 says.
+fn read_answer(text: &str) -> Option<(Planned, Vec<u16>)> {
+    let lines: Vec<&str> = text.lines().collect();
+    let number = |place: usize| lines.get(place)?.split_once(' ')?.1.parse::<u64>().ok();
+    let [arrival, drawn, recovered, spilled] = [number(0)?, number(1)?, number(2)?, number(3)?];
+    let roads = number(4)?;
+    let route: Vec<u16> = lines[5..].iter().map(|line| line.parse().ok()).collect::<Option<_>>()?;
+    let is_exact = roads == route.len() as u64 && answer([arrival, drawn, recovered, spilled], &route) == text;
+    is_exact.then_some((Planned { number: 0, place: 0, roads, arrival, drawn, recovered, spilled }, route))
+}
