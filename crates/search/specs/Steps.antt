@@ -1,8 +1,10 @@
 -- What the parts of the search ask and keep. No promise cites this file.
 use mathlib.Core.Path.{_≡_}
+use mathlib.Core.Bool.{Bool, true, false}
 use mathlib.Core.List.{List}
 use mathlib.Core.Logic.{_⊎_}
 use Prim.Native.Nat.{ℕ, _+_, _*_, _/_, _%_, _^_, _≤_, _<_, max}
+use lib.Dec.{ltb}
 use lib.ListN.{length}
 use Rattle.battery.specs.Ready.{Ranged}
 use Rattle.battery.specs.Rule.{mostBattery}
@@ -63,6 +65,14 @@ pub record Underway (rd : Reading) (labels ways queue : List ℕ) (top : ℕ) : 
   pub queued : Queued queue top
   pub bounded : (v : ℕ) → entry labels v ≤ rd .battery + 1
   pub real : (v : ℕ) → 0 < keyAt queue v → 0 < waiting queue v
+
+abbrev pub choose : Bool → ℕ → ℕ → ℕ
+choose true x y = y
+choose false x y = x
+
+-- y where the new label betters the old one, x else
+abbrev pub better : ℕ → ℕ → ℕ → ℕ → ℕ
+better old new x y = choose (ltb old new) x y
 
 -- ---- an offer to junction v: a label by a road, with its key
 

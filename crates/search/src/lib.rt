@@ -7,7 +7,7 @@ ghost use Rattle.network.specs.Files.{junctions, roadCount};
 ghost use Rattle.search.specs.Chains.{Chained, ChainAsks};
 ghost use Rattle.search.specs.Found.{Finds};
 ghost use Rattle.search.specs.Reading.{entered, left, stepForward, stepOf, psiForward, psiOf, psi, net};
-ghost use Rattle.search.specs.Steps.{StepAsks, packed, KeyAsks, OfferAsks, Offered, RelaxAsks, RelaxKeeps, SpreadAsks, SpreadKeeps, ExploreAsks, Explored, FindAsks};
+ghost use Rattle.search.specs.Steps.{StepAsks, better, packed, KeyAsks, OfferAsks, Offered, RelaxAsks, RelaxKeeps, SpreadAsks, SpreadKeeps, ExploreAsks, Explored, FindAsks};
 ghost use Rattle.search.specs.Trails.{Trailed, Counted, WriteAsks, Written};
 use battery::Road;
 
@@ -189,7 +189,8 @@ fn key(nodes: &[u8], reading: Reading, v: usize, label: u32) -> u64
     (label as u64 + number as u64) * frontier::PLACES + v as u64
 }
 
-// Takes the offer to v where it betters the label.
+// Takes the offer to v where it betters the label. There is no branch, since which it is cannot be
+// foretold.
 fn take(
     labels: &mut [u32],
     ways: &mut [u16],
@@ -201,12 +202,28 @@ fn take(
     requires { ⌜ OfferAsks (now labels) (now ways) (now queue) top v offer ⌝ }
     ensures { λ r. ⌜ Offered (now (labels .entry)) (now (ways .entry)) (now (queue .entry)) v offer (now (labels .exit)) (now (ways .exit)) (now (queue .exit)) r ⌝ }
 {
-    if labels[v] < offer.label {
-        labels[v] = offer.label;
-        ways[v] = offer.road;
-        return frontier::raise(queue, top, v, offer.key);
-    }
-    top
+    let old = labels[v];
+    labels[v] = better_label(old, offer);
+    ways[v] = better_way(old, offer, ways[v]);
+    frontier::raise(queue, top, v, better_key(old, offer))
+}
+
+fn better_label(old: u32, offer: Offer) -> u32
+    ensures { λ r. ⌜ r ≡ better old (offer .label) old (offer .label) ⌝ }
+{
+    if old < offer.label { offer.label } else { old }
+}
+
+fn better_way(old: u32, offer: Offer, way: u16) -> u16
+    ensures { λ r. ⌜ r ≡ better old (offer .label) way (offer .road) ⌝ }
+{
+    if old < offer.label { offer.road } else { way }
+}
+
+fn better_key(old: u32, offer: Offer) -> u64
+    ensures { λ r. ⌜ r ≡ better old (offer .label) 0 (offer .key) ⌝ }
+{
+    if old < offer.label { offer.key } else { 0 }
 }
 
 // How many roads lead back by the ways from the target to the source.

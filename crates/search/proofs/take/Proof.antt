@@ -1,14 +1,26 @@
 -- `search::take` meets its contract. Assumes nothing.
 use borrow.Author.Needs.{needs}
-use Rattle.search.proofs.Offering.{offer-taken, offer-passed}
+use lib.Dec.{ltb}
+use Rattle.frontier.specs.Frontier.{entry}
+use Rattle.search.proofs.Offering.{raises, offered}
 use Rattle.search.proofs.take.Statement.{statement}
 use Rattle.search.proofs.take.Tie as tie
 
-returns : tie.Need-returns
-returns c = offer-taken _ _ _ _ _ _ (c .before .before .before .before .before .before .before .before .before .before .pre) _ _ (c .before .before .before .before .if1 .taken) (c .before .before .raise .ensures)
+raise-requires : tie.Need-raise-requires
+raise-requires c κs =
+    let start = c .before .before .before .before .before .before .before .before .before in
+    let a = start .args in
+    raises _ _ _ _ _ _ (ltb (entry (a .labels .now) (a .v)) (a .offer .label)) (start .pre) (c .better-key .ensures)
 
-returns-2 : tie.Need-returns-2
-returns-2 c = offer-passed _ _ _ _ _ _ (c .before .before .before .before .before .before .pre) (c .if1 .left)
+returns : tie.Need-returns
+returns c =
+    let raised = c .before .before in
+    let keyed = raised .before in
+    let way = keyed .before .before in
+    let labelled = way .before .before in
+    let start = labelled .before .before .before .before .before in
+    offered _ _ _ _ _ _ (start .pre) _ _ _ _ _ (raised .raise .ensures) (labelled .better-label .ensures)
+    (way .better-way .ensures) (keyed .better-key .ensures)
 
 pub take-spec : {M : Type 1} → statement M
 take-spec =
@@ -16,6 +28,7 @@ take-spec =
     (tie.spec
     (λ c. search needs)
     (λ c. search needs)
+    (λ c κs. search needs)
     (λ c. search needs)
     (λ c. search needs)
     (λ c. search needs)
@@ -23,6 +36,9 @@ take-spec =
     (λ c κs. search needs)
     (λ c. search needs)
     (λ c. search needs)
+    (λ c κs. search needs)
+    raise-requires
     (λ c. search needs)
-    returns
-    returns-2)
+    (λ c. search needs)
+    (λ c. search needs)
+    returns)
