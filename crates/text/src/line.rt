@@ -18,15 +18,15 @@ pub enum Asked {
 pub const MOST_DIGITS: usize = 10;
 
 // A number of the line and the place after the byte that ends it, or that none stands there.
-pub enum Taken {
+enum Taken {
     Number(u64, usize),
     Nothing,
 }
 
 // The digits that stand at a place: their number and the place after them.
-pub struct Digits {
-    pub value: u64,
-    pub next: usize,
+struct Digits {
+    value: u64,
+    next: usize,
 }
 
 // The query line of the best route: battery, start, source, target.
@@ -58,7 +58,7 @@ pub fn read_query(line: &[u8]) -> Asked
 }
 
 // The number at byte i, which the byte `end` must follow.
-pub fn take_number(line: &[u8], i: usize, end: u8) -> Taken
+fn take_number(line: &[u8], i: usize, end: u8) -> Taken
     requires { ⌜ (i ≤ length (now line)) × Ends end ⌝ }
     ensures { λ r. ⌜ Takes (now (line .entry)) i end r ⌝ }
 {

@@ -6,49 +6,54 @@ use borrow.Author.Needs.{needs}
 use lib.ListN.{length}
 use lib.Seq.{length-take-le}
 use Rattle.text.specs.Line.{ReadsQuery}
+use Rattle.text.specs.declared.line.Asked.the-variants as asked
 use Rattle.plan.specs.Response.{Responds}
 use Rattle.plan.proofs.Answered.{no-query, route-fits, route-text, refusal-text, responds}
 use Rattle.plan.proofs.respond.Statement.{statement}
 use Rattle.plan.proofs.respond.Tie as tie
 
+-- no query line
 returns : tie.Need-returns
 returns c =
-    let w = c .write-bad-query .ensures in
-    let l = c .before .before .before .before .before .before .before .before .args .line .now in
-    (w .0, rw (w .1) (Responds.bad (no-query (subst (ReadsQuery l) (c .before .before .enum-told .given .1) (c .before .before .before .before .read-query .ensures)))))
+    let written = c .write-bad-query .ensures in
+    let read = c .before .before .before .before in
+    let line = read .before .before .before .before .args .line .now in
+    (written .0, rw (written .1) (Responds.bad (no-query (subst (ReadsQuery line) (c .before .before .enum-told .given .1) (read .read-query .ensures)))))
 
+-- the question that the line asks
+asks : (c : tie.After-known-told) → ReadsQuery (c .before .before .before .before .before .before .before .args .line .now) (asked.Query (c .before .asked .given .0 .0))
+asks c = subst (ReadsQuery (c .before .before .before .before .before .before .before .args .line .now)) (c .before .asked .given .1) (c .before .before .before .read-query .ensures)
+
+-- a refusal
 returns-2 : tie.Need-returns-2
 returns-2 c =
-    let w = c .write-refusal .ensures in
-    let s = c .before .before .before .before .before .before .before .before .before .before .before .before .before .before .before in
-    let b = c .before .before .before .before .before .before .best-route in
-    let q = subst (ReadsQuery (s .args .line .now)) (c .before .before .before .before .before .before .before .before .before .asked .given .1) (c .before .before .before .before .before .before .before .before .before .before .before .read-query .ensures) in
-    (w .0, responds q refl (b .ensures) (w .1 ∙ refusal-text _ (c .before .before .before .before .plan-numbers .ensures) (c .before .before .enum-told2 .given .1)))
+    let written = c .write-refusal .ensures in
+    let given = c .before .before .before .before in
+    let best = given .before .before in
+    let text = refusal-text _ (given .plan-numbers .ensures) (c .before .before .enum-told2 .given .1) in
+    (written .0, responds (asks (best .before .before)) refl (best .best-route .ensures) (written .1 ∙ text))
 
 -- the route that was found is no longer than the list
-count-le : (c : tie.After-write-route-arg) → c .before .before .answer .given .0 .0 ≤ length (c .before .before .before .before .before .before .best-route .last .1 .1 .1 .0)
+count-le : (c : tie.After-write-route-arg)
+    → c .before .before .answer .given .0 .0 ≤ length (c .before .before .before .before .before .before .best-route .last .1 .1 .1 .0)
 count-le c =
-    let b = c .before .before .before .before .before .before .best-route in
-    route-fits (b .ensures) (c .before .before .answer .given .1) (b .kept .1 .1 .1 .0)
-
-array-share-prefix-list : tie.Need-array-share-prefix-list
-array-share-prefix-list c = count-le c
-
-slice-aggregate-write-route : tie.Need-slice-aggregate-write-route
-slice-aggregate-write-route c = sym (length-take-le _ _ (count-le (c .before)))
+    let best = c .before .before .before .before .before .before .best-route in
+    route-fits (best .ensures) (c .before .before .answer .given .1) (best .kept .1 .1 .1 .0)
 
 write-route-requires : tie.Need-write-route-requires
 write-route-requires c κs =
-    let l = length-take-le (c .before .before .before .answer .given .0 .0) (c .before .before .before .before .before .before .before .best-route .last .1 .1 .1 .0) (count-le (c .before)) in
-    omega (arith, count-le (c .before), c .before .before .before .before .before .before .before .best-route .kept .1 .1 .1 .0)
+    let best = c .before .before .before .before .before .before .before .best-route in
+    let count = c .before .before .before .answer .given .0 .0 in
+    let l = length-take-le count (best .last .1 .1 .1 .0) (count-le (c .before)) in
+    omega (arith, count-le (c .before), best .kept .1 .1 .1 .0)
 
 returns-3 : tie.Need-returns-3
 returns-3 c =
-    let w = c .write-route .ensures in
-    let s = c .before .before .before .before .before .before .before .before .before .before .before .before .before .before .before .before .before in
-    let b = c .before .before .before .before .before .before .before .before .best-route in
-    let q = subst (ReadsQuery (s .args .line .now)) (c .before .before .before .before .before .before .before .before .before .before .before .asked .given .1) (c .before .before .before .before .before .before .before .before .before .before .before .before .before .read-query .ensures) in
-    (w .0, responds q refl (b .ensures) (w .1 ∙ route-text _ (c .before .before .before .before .before .before .plan-numbers .ensures) (c .before .before .before .before .answer .given .1)))
+    let written = c .write-route .ensures in
+    let given = c .before .before .before .before .before .before in
+    let best = given .before .before in
+    let text = route-text _ (given .plan-numbers .ensures) (c .before .before .before .before .answer .given .1) in
+    (written .0, responds (asks (best .before .before)) refl (best .best-route .ensures) (written .1 ∙ text))
 
 pub respond-spec : {M : Type 1} → statement M
 respond-spec =
@@ -66,7 +71,7 @@ respond-spec =
     (λ c. search needs)
     (λ c κs. search needs)
     returns-2
-    array-share-prefix-list
-    slice-aggregate-write-route
+    (λ c. count-le c)
+    (λ c. sym (length-take-le _ _ (count-le (c .before))))
     write-route-requires
     returns-3)

@@ -9,15 +9,18 @@ use Rattle.plan.proofs.without_files.Tie as tie
 
 returns : tie.Need-returns
 returns c =
-    let w = c .write-no-file .ensures in
-    let l = c .before .before .before .before .before .before .args .line .now in
-    (w .0, rw (w .1) (no-file (subst (ReadsQuery l) (c .before .before .enum-told .given .1) (c .before .before .before .before .read-query .ensures))))
+    let written = c .write-no-file .ensures in
+    let read = c .before .before .before .before in
+    let line = read .before .before .args .line .now in
+    (written .0, rw (written .1) (no-file (subst (ReadsQuery line) (c .before .before .enum-told .given .1) (read .read-query .ensures))))
 
 returns-2 : tie.Need-returns-2
 returns-2 c =
-    let w = c .write-bad-query .ensures in
-    let l = c .before .before .before .before .before .before .args .line .now in
-    (w .0, rw (w .1) (WithoutFiles.bad (no-query (subst (ReadsQuery l) (c .before .before .enum-told2 .given .1) (c .before .before .before .before .read-query .ensures)))))
+    let written = c .write-bad-query .ensures in
+    let read = c .before .before .before .before in
+    let line = read .before .before .args .line .now in
+    let asked = subst (ReadsQuery line) (c .before .before .enum-told2 .given .1) (read .read-query .ensures) in
+    (written .0, rw (written .1) (WithoutFiles.bad (no-query asked)))
 
 pub without-files-spec : {M : Type 1} → statement M
 without-files-spec =

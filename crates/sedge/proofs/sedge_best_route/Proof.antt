@@ -4,6 +4,11 @@ use mir.Facts.{toZ-ofZ}
 use Rattle.sedge.proofs.sedge_best_route.Statement.{statement}
 use Rattle.sedge.proofs.sedge_best_route.Tie as tie
 
+returns : tie.Need-returns
+returns c =
+    let start = c .before .before .before .before .before .before .before .before in
+    rw (c .plan-numbers .ensures) (simp (toZ-ofZ (start .fits .battery), toZ-ofZ (start .fits .start)) at (c .before .before .before .best-route .ensures))
+
 pub sedge-best-route-spec : {M : Type 1} → statement M
 sedge-best-route-spec =
     tie.close
@@ -11,4 +16,4 @@ sedge-best-route-spec =
     (λ c κs. search needs)
     (λ c κs. search needs)
     (λ c. search needs)
-    (λ c. rw (c .plan-numbers .ensures) (simp (toZ-ofZ (c .before .before .before .before .before .before .before .before .fits .battery), toZ-ofZ (c .before .before .before .before .before .before .before .before .fits .start)) at (c .before .before .before .best-route .ensures))))
+    returns)

@@ -14,6 +14,18 @@ Inv-loop out₀ from route at₀ i₀ out at i = Listing out₀ from route out a
 abbrev μ-loop : tie.MeasureT-loop
 μ-loop out₀ from route at₀ i₀ out at i = length route - i
 
+-- a line of 21 bytes fits, since each of those before took at most six
+put-number-line-requires : tie.Need-put-number-line-requires Inv-loop μ-loop
+put-number-line-requires c κs =
+    let l = c .before .before .before .before .loop .inv in
+    omega (arith, c .before .before .before .before .before .before .before .pre, l .short, l .same, c .before .before .before .loop-test .taken)
+
+loop-again : tie.Need-loop-again Inv-loop μ-loop
+loop-again c =
+    let road = c .before .before .before .wide .ensures in
+    let put = c .before .before .put-number-line in
+    listing-more (c .before .before .before .before .before .before .before .loop .inv) (c .before .before .before .before .before .before .loop-test .taken) (road .0) (road .1) (put .kept .0) (put .ensures .0)
+
 pub put-roads-spec : {M : Type 1} → statement M
 put-roads-spec =
     tie.close
@@ -24,11 +36,9 @@ put-roads-spec =
     (λ c. search needs)
     (λ c. search needs)
     (λ c κs. search needs)
-    (λ c κs. omega (arith, c .before .before .before .before .before .before .before .pre, c .before .before .before .before .loop .inv .short, c .before .before .before .before .loop .inv .same, c .before .before .before .loop-test .taken))
+    put-number-line-requires
     (λ c. search needs)
     (λ c. search needs)
-    (λ c.
-    listing-more (c .before .before .before .before .before .before .before .loop .inv) (c .before .before .before .before .before .before .loop-test .taken) (c .before .before .before .wide .ensures .0) (c .before .before .before .wide .ensures .1) (c .before .before .put-number-line .kept .0)
-    (c .before .before .put-number-line .ensures .0))
+    loop-again
     (λ c. c .before .loop .inv .same)
     (λ c. listing-all (c .before .loop .inv) (c .loop-test .left)))

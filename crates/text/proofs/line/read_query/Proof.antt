@@ -1,6 +1,7 @@
 -- `text::line::read_query` meets its contract. Assumes nothing.
 use mathlib.Core.Path.{subst}
-use Prim.Native.Nat.{_<_, _^_}
+use mathlib.Core.List.{List}
+use Prim.Native.Nat.{ℕ, _<_, _^_}
 use native.Mathlib.Omega.{arith}
 use borrow.Author.Needs.{needs}
 use mir.Facts.{toZ-pos}
@@ -12,66 +13,91 @@ use Rattle.text.proofs.Lines.{bad-battery, bad-start, bad-source, bad-t
 use Rattle.text.proofs.line.read_query.Statement.{statement}
 use Rattle.text.proofs.line.read_query.Tie as tie
 
--- the four numbers, each taken where the one before it ends
-battery : (c : tie.After-known-told) →
-    Takes (c .before .before .before .before .before .args .line .now) 0 space (taken.Number (c .before .battery .given .0 .0) (c .before .battery .given .0 .1 .0))
-battery c = subst (Takes (c .before .before .before .before .before .args .line .now) 0 space) (c .before .battery .given .1) (c .before .before .before .take-number .ensures)
+-- ---- once the battery is taken, the start, the source: the line, and where each number ends
 
-start : (c : tie.After-known-told2) →
-    Takes (c .before .before .before .before .before .before .before .before .before .args .line .now) (c .before .before .before .before .before .battery .given .0 .1 .0) space
-    (taken.Number (c .before .start .given .0 .0) (c .before .start .given .0 .1 .0))
-start c =
-    subst (Takes (c .before .before .before .before .before .before .before .before .before .args .line .now) (c .before .before .before .before .before .battery .given .0 .1 .0) space) (c .before .start .given .1)
-    (c .before .before .before .take-number2 .ensures)
+abbrev line : tie.After-known-told → List ℕ
+line c = c .before .before .before .before .before .args .line .now
 
-source : (c : tie.After-known-told3) →
-    Takes (c .before .before .before .before .before .before .before .before .before .before .before .before .before .args .line .now) (c .before .before .before .before .before .start .given .0 .1 .0) space
-    (taken.Number (c .before .source .given .0 .0) (c .before .source .given .0 .1 .0))
+abbrev battery-end : tie.After-known-told → ℕ
+battery-end c = c .before .battery .given .0 .1 .0
+
+abbrev first : tie.After-known-told2 → tie.After-known-told
+first c = c .before .before .before .before
+
+abbrev start-end : tie.After-known-told2 → ℕ
+start-end c = c .before .start .given .0 .1 .0
+
+abbrev second : tie.After-known-told3 → tie.After-known-told2
+second c = c .before .before .before .before
+
+abbrev source-end : tie.After-known-told3 → ℕ
+source-end c = c .before .source .given .0 .1 .0
+
+abbrev third : tie.After-known-told4 → tie.After-known-told3
+third c = c .before .before .before .before
+
+-- ---- the four numbers, each taken where the one before it ends
+
+battery : (c : tie.After-known-told) → Takes (line c) 0 space (taken.Number (c .before .battery .given .0 .0) (battery-end c))
+battery c = subst (Takes (line c) 0 space) (c .before .battery .given .1) (c .before .before .before .take-number .ensures)
+
+start : (c : tie.After-known-told2)
+    → Takes (line (first c)) (battery-end (first c)) space (taken.Number (c .before .start .given .0 .0) (start-end c))
+start c = subst (Takes (line (first c)) (battery-end (first c)) space) (c .before .start .given .1) (c .before .before .before .take-number2 .ensures)
+
+source : (c : tie.After-known-told3)
+    → Takes (line (first (second c))) (start-end (second c)) space (taken.Number (c .before .source .given .0 .0) (source-end c))
 source c =
-    subst (Takes (c .before .before .before .before .before .before .before .before .before .before .before .before .before .args .line .now) (c .before .before .before .before .before .start .given .0 .1 .0) space) (c .before .source .given .1)
+    subst (Takes (line (first (second c))) (start-end (second c)) space) (c .before .source .given .1)
     (c .before .before .before .take-number3 .ensures)
 
-target : (c : tie.After-known-told4) →
-    Takes (c .before .before .before .before .before .before .before .before .before .before .before .before .before .before .before .before .before .args .line .now) (c .before .before .before .before .before .source .given .0 .1 .0) newline
+target : (c : tie.After-known-told4)
+    → Takes (line (first (second (third c)))) (source-end (third c)) newline
     (taken.Number (c .before .target .given .0 .0) (c .before .target .given .0 .1 .0))
 target c =
-    subst (Takes (c .before .before .before .before .before .before .before .before .before .before .before .before .before .before .before .before .before .args .line .now) (c .before .before .before .before .before .source .given .0 .1 .0) newline) (c .before .target .given .1)
+    subst (Takes (line (first (second (third c)))) (source-end (third c)) newline) (c .before .target .given .1)
     (c .before .before .before .take-number4 .ensures)
 
--- where one of them is missing
+-- ---- where one of them is missing
+
 returns : tie.Need-returns
 returns c = bad-battery (subst (Takes (c .before .before .before .before .args .line .now) 0 space) (c .enum-told .given .1) (c .before .before .take-number .ensures))
 
 returns-2 : tie.Need-returns-2
 returns-2 c =
-    bad-start (battery (c .before .before .before))
-    (subst (Takes (c .before .before .before .before .before .before .before .before .args .line .now) (c .before .before .before .before .battery .given .0 .1 .0) space) (c .enum-told2 .given .1)
-    (c .before .before .take-number2 .ensures))
+    let had = c .before .before .before in
+    bad-start (battery had)
+    (subst (Takes (line had) (battery-end had) space) (c .enum-told2 .given .1) (c .before .before .take-number2 .ensures))
 
 returns-3 : tie.Need-returns-3
 returns-3 c =
-    bad-source (battery (c .before .before .before .before .before .before .before)) (start (c .before .before .before))
-    (subst (Takes (c .before .before .before .before .before .before .before .before .before .before .before .before .args .line .now) (c .before .before .before .before .start .given .0 .1 .0) space) (c .enum-told3 .given .1)
-    (c .before .before .take-number3 .ensures))
+    let had = c .before .before .before in
+    bad-source (battery (first had)) (start had)
+    (subst (Takes (line (first had)) (start-end had) space) (c .enum-told3 .given .1) (c .before .before .take-number3 .ensures))
 
 returns-4 : tie.Need-returns-4
 returns-4 c =
-    bad-target (battery (c .before .before .before .before .before .before .before .before .before .before .before)) (start (c .before .before .before .before .before .before .before)) (source (c .before .before .before))
-    (subst (Takes (c .before .before .before .before .before .before .before .before .before .before .before .before .before .before .before .before .args .line .now) (c .before .before .before .before .source .given .0 .1 .0) newline) (c .enum-told4 .given .1)
-    (c .before .before .take-number4 .ensures))
+    let had = c .before .before .before in
+    bad-target (battery (first (second had))) (start (second had)) (source had)
+    (subst (Takes (line (first (second had))) (source-end had) newline) (c .enum-told4 .given .1) (c .before .before .take-number4 .ensures))
 
-battery-small : (c : tie.After-known-told4) → c .before .before .before .before .before .before .before .before .before .before .before .before .before .battery .given .0 .0 < 10 ^ 10
-battery-small c = taken-small (battery (c .before .before .before .before .before .before .before .before .before .before .before .before))
+-- ---- where all four are there; battery and start become signed numbers
 
-start-small : (c : tie.After-known-told4) → c .before .before .before .before .before .before .before .before .before .start .given .0 .0 < 10 ^ 10
-start-small c = taken-small (start (c .before .before .before .before .before .before .before .before))
+battery-small : (c : tie.After-known-told4) → first (second (third c)) .before .battery .given .0 .0 < 10 ^ 10
+battery-small c = taken-small (battery (first (second (third c))))
+
+start-small : (c : tie.After-known-told4) → second (third c) .before .start .given .0 .0 < 10 ^ 10
+start-small c = taken-small (start (second (third c)))
 
 returns-5 : tie.Need-returns-5
 returns-5 c =
     let b = battery-small c in
     let s = start-small c in
-    rw (toZ-pos w64 {n = c .before .before .before .before .before .before .before .before .before .before .before .before .before .battery .given .0 .0} (omega arith), toZ-pos w64 {n = c .before .before .before .before .before .before .before .before .before .start .given .0 .0} (omega arith))
-    (good (battery (c .before .before .before .before .before .before .before .before .before .before .before .before)) (start (c .before .before .before .before .before .before .before .before)) (source (c .before .before .before .before)) (target c))
+    rw (
+      toZ-pos w64 {n = first (second (third c)) .before .battery .given .0 .0} (omega arith),
+      toZ-pos w64 {n = second (third c) .before .start .given .0 .0} (omega arith),
+    )
+    (good (battery (first (second (third c)))) (start (second (third c))) (source (third c)) (target c))
 
 pub read-query-spec : {M : Type 1} → statement M
 read-query-spec =

@@ -18,15 +18,17 @@ abbrev μ-loop : tie.MeasureT-loop
 -- a digit stands inside the line
 inside : (c : tie.After-wide Inv-loop μ-loop) → c .before .before .before .before .before .loop .next < length (c .before .before .before .before .before .before .before .args .line .now)
 inside c =
-    let lo = c .before .before .before .if1 .left in
-    let b = c .before .before .before .before .byte .ensures in
-    in-list (c .before .before .before .before .before .before .before .args .line .now) (c .before .before .before .before .before .loop .next) (omega arith)
+    let looping = c .before .before .before .before .before in
+    let low = c .before .before .before .if1 .left in
+    let byte = c .before .before .before .before .byte .ensures in
+    in-list (looping .before .before .args .line .now) (looping .loop .next) (omega arith)
 
 loop-again : tie.Need-loop-again Inv-loop μ-loop
 loop-again c =
-    let lo = c .before .before .before .if1 .left in
-    let hi = c .before .before .if2 .left in
-    run-more (c .before .before .before .before .before .loop .inv) (c .before .before .before .before .byte .ensures) (omega arith) (omega arith) (c .before .if3 .left) (c .wide .ensures)
+    let looping = c .before .before .before .before .before in
+    let low = c .before .before .before .if1 .left in
+    let high = c .before .before .if2 .left in
+    run-more (looping .loop .inv) (c .before .before .before .before .byte .ensures) (omega arith) (omega arith) (c .before .if3 .left) (c .wide .ensures)
 
 pub take-digits-spec : {M : Type 1} → statement M
 take-digits-spec =
