@@ -1,6 +1,6 @@
 -- Laws of digits: one more at the end, how large their number is, where they end. Assumes nothing.
-use mathlib.Core.Path.{_≡_, refl}
-use mathlib.Core.List.{List, [], _∷_, _++_}
+use mathlib.Core.Path.{_≡_, refl, sym, _∙_}
+use mathlib.Core.List.{List, [], _∷_, _++_, append-nil}
 use Prim.Native.Nat.{ℕ, suc, _+_, _-_, _*_, _^_, _≤_, _<_}
 use native.Mathlib.Nat.{pow-succ', pow-le-pow-right}
 use native.Mathlib.Omega.{arith}
@@ -18,11 +18,15 @@ spelled-snoc n [] x = refl
 spelled-snoc n (y ∷ t) x = spelled-snoc (n * 10 + (y - 48)) t x
 
 -- k digits spell a number below 10^k
-pub spelled-lt : {t : List ℕ} (n j k : ℕ) → AllDigits t → n < 10 ^ j → j + length t ≤ k → spelled n t < 10 ^ k
+spelled-lt : {t : List ℕ} (n j k : ℕ) → AllDigits t → n < 10 ^ j → j + length t ≤ k → spelled n t < 10 ^ k
 spelled-lt n j k none h l = let p = pow-le-pow-right {n = 10} (lit< tt) {i = j} {j = k} (omega arith) in omega arith
 spelled-lt n j k (more {x} {t} lo hi d) h l =
     let p : 10 ^ suc j ≡ 10 * 10 ^ j = pow-succ' 10 j in
     spelled-lt (n * 10 + (x - 48)) (suc j) k d (omega arith) (omega arith)
+
+-- what ten digits at most spell
+pub ten-digits : {t : List ℕ} → AllDigits t → length t ≤ 10 → spelled 0 t < 10 ^ 10
+ten-digits d h = spelled-lt 0 0 10 d (lit< tt) (omega arith)
 
 -- two texts begin alike, t of digits, u of digits that a byte ends which is none: then u goes on from t
 pub record Past (t u rest after : List ℕ) : Type 0 where
@@ -49,11 +53,10 @@ pub record Cut (t u : List ℕ) (e f : ℕ) (x y : List ℕ) : Type 0 where
 
 pub cut : {t u : List ℕ} (e f : ℕ) (x y : List ℕ) → AllDigits t → AllDigits u → NoDigit e → NoDigit f → t ++ (e ∷ x) ≡ u ++ (f ∷ y)
     → Cut t u e f x y
-cut e f x y none none p q h = record { front = refl; ends = cc; rest = cc }
-cut e f x y none (more {x = b} lo hi d) p q h = let z : e ≡ b = cc in absurd (p (omega arith) (omega arith))
-cut e f x y (more {x = a} lo hi d) none p q h = let z : a ≡ f = cc in absurd (q (omega arith) (omega arith))
-cut e f x y (more {x = a} {t} lo hi d) (more {x = b} {t = u} lo2 hi2 d2) p q h =
-    let z : a ≡ b = cc in
-    let r : t ++ (e ∷ x) ≡ u ++ (f ∷ y) = cc in
-    let s = cut e f x y d d2 p q r in
-    record { front = λ i. z i ∷ s .front i; ends = s .ends; rest = s .rest }
+cut {t} {u} e f x y d d2 p q h =
+    let s = past (e ∷ x) y f d d2 q h in
+    go (s .more-digits) (s .digits) (s .whole) (s .left)
+  where
+    go : (m : List ℕ) → AllDigits m → u ≡ t ++ m → e ∷ x ≡ m ++ (f ∷ y) → Cut t u e f x y
+    go m none w l = record { front = sym (w ∙ append-nil t); ends = cc; rest = cc }
+    go m (more {x = a} lo hi k) w l = let z : e ≡ a = cc in absurd (p (omega arith) (omega arith))

@@ -3,7 +3,6 @@ use mathlib.Core.Path.{_≡_, refl, sym, ap, _∙_, subst}
 use mathlib.Core.List.{List, [], _∷_, _++_, append-assoc}
 use Prim.Native.Nat.{ℕ, _^_, _≤_, _<_}
 use native.Mathlib.Omega.{arith}
-use lib.Dec.{lit<}
 use lib.ListN.{length, drop, length-append}
 use Rattle.text.specs.Claims.{OneReading, RestIsFree, LineIsShort}
 use Rattle.text.specs.Digits.{spelled}
@@ -11,7 +10,7 @@ use Rattle.text.specs.Line.{space, newline, Number, Line, last, then, qu
 use Rattle.text.specs.Taking.{NoDigit, Takes, number, nothing}
 use Rattle.text.specs.declared.line.Asked.the-variants as asked
 use Rattle.text.specs.declared.line.Taken.the-variants as taken
-use Rattle.text.proofs.Digits.{spelled-lt, cut}
+use Rattle.text.proofs.Digits.{ten-digits, cut}
 
 no-digit-space : NoDigit space
 no-digit-space lo hi = omega arith
@@ -21,22 +20,18 @@ no-digit-newline lo hi = omega arith
 
 -- a number of the line is below 10^10
 number-lt : {n : ℕ} {t : List ℕ} → Number n t → n < 10 ^ 10
-number-lt m = let h = spelled-lt 0 0 10 (m .digits) (lit< tt) (omega (arith, m .most)) in omega (arith, m .value)
+number-lt m = let h = ten-digits (m .digits) (m .most) in omega (arith, m .value)
 
 -- two numbers of the line by the same bytes are one
 one-number : {n m : ℕ} {t u : List ℕ} → Number n t → Number m u → t ≡ u → n ≡ m
 one-number {m} {u} a b e = sym (a .value) ∙ subst (λ (t : List ℕ). spelled 0 t ≡ m) (sym e) (b .value)
 
--- ---- what is taken off the line is what the line has
-pub record Peeled (n v : ℕ) (ns s : List ℕ) : Type 0 where
-  pub number-is : n ≡ v
-  pub rest : Line ns s
-
+-- ---- once a number is taken off, the rest is a line of the others
 pub peel : {s : List ℕ} {i n m v k : ℕ} {ns : List ℕ} → Takes s i space (taken.Number v k) → Line (n ∷ m ∷ ns) (drop i s)
-    → Peeled n v (m ∷ ns) (drop k s)
+    → Line (m ∷ ns) (drop k s)
 peel {s} {m} {k} {ns} (number t a e l) (then u rest b f more) =
     let c = cut space space rest (drop k s) (b .digits) (a .digits) no-digit-space no-digit-space (sym f ∙ e) in
-    record { number-is = one-number b a (c .front); rest = subst (λ (x : List ℕ). Line (m ∷ ns) x) (c .rest) more }
+    subst (λ (x : List ℕ). Line (m ∷ ns) x) (c .rest) more
 
 pub no-then : {s : List ℕ} {i n m : ℕ} {ns : List ℕ} → Takes s i space taken.Nothing → Line (n ∷ m ∷ ns) (drop i s) → ⊥
 no-then {n} (nothing f) (then u rest b e more) = f n u rest b e
@@ -49,15 +44,15 @@ pub bad-battery : {s : List ℕ} → Takes s 0 space taken.Nothing → ReadsQuer
 bad-battery a = bad (λ m b u v l. no-then a l)
 
 pub bad-start : {s : List ℕ} {m i : ℕ} → Takes s 0 space (taken.Number m i) → Takes s i space taken.Nothing → ReadsQuery s asked.Bad
-bad-start a b = bad (λ m x u v l. no-then b (peel a l .rest))
+bad-start a b = bad (λ m x u v l. no-then b (peel a l))
 
 pub bad-source : {s : List ℕ} {m i b j : ℕ} → Takes s 0 space (taken.Number m i) → Takes s i space (taken.Number b j)
     → Takes s j space taken.Nothing → ReadsQuery s asked.Bad
-bad-source a b c = bad (λ m x u v l. no-then c (peel b (peel a l .rest) .rest))
+bad-source a b c = bad (λ m x u v l. no-then c (peel b (peel a l)))
 
 pub bad-target : {s : List ℕ} {m i b j u k : ℕ} → Takes s 0 space (taken.Number m i) → Takes s i space (taken.Number b j)
     → Takes s j space (taken.Number u k) → Takes s k newline taken.Nothing → ReadsQuery s asked.Bad
-bad-target a b c d = bad (λ m x u v l. no-last d (peel c (peel b (peel a l .rest) .rest) .rest))
+bad-target a b c d = bad (λ m x u v l. no-last d (peel c (peel b (peel a l))))
 
 pub good : {s : List ℕ} {m i b j u k v n : ℕ} → Takes s 0 space (taken.Number m i) → Takes s i space (taken.Number b j)
     → Takes s j space (taken.Number u k) → Takes s k newline (taken.Number v n) → ReadsQuery s (asked.Query (question m b u v))

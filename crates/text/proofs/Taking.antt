@@ -2,18 +2,17 @@
 use mathlib.Core.Path.{_≡_, refl, sym, ap, _∙_, subst}
 use mathlib.Core.List.{List, [], _∷_, _++_, append-assoc, append-nil}
 use mathlib.Core.Logic.{_⊎_, inl, inr}
-use Prim.Native.Nat.{ℕ, zero, suc, _+_, _-_, _*_, _≤_, _<_, suc-le-suc}
+use Prim.Native.Nat.{ℕ, zero, suc, _+_, _-_, _*_, _^_, _≤_, _<_, suc-le-suc}
 use native.Mathlib.Nat.{add-zero}
 use native.Mathlib.Numerals.{add-one}
 use native.Mathlib.Omega.{arith}
-use lib.Dec.{lit<}
 use lib.ListN.{length, drop, getD, length-append}
 use lib.Seq.{drop-cons, getD-drop}
 use Rattle.text.specs.Digits.{AllDigits, none, more}
 use Rattle.text.specs.Line.{Number}
 use Rattle.text.specs.Taking.{NoDigit, Ends, Run, Ran, Takes, number, nothing}
 use Rattle.text.specs.declared.line.Taken.the-variants as taken
-use Rattle.text.proofs.Digits.{digits-snoc, spelled-snoc, spelled-lt, past}
+use Rattle.text.proofs.Digits.{digits-snoc, spelled-snoc, ten-digits, past}
 
 -- a byte that is not 0 is in the list
 pub in-list : (s : List ℕ) (k : ℕ) → 0 < getD s k 0 → k < length s
@@ -35,9 +34,9 @@ pub run-none : (s : List ℕ) (i : ℕ) → i ≤ length s → Run s i 0 i
 run-none s i h =
     record { text = []; digits = none; value = refl; there = refl; long = sym (add-zero i); most = omega arith; inside = h }
 
--- ten digits spell a number below 10^10
-pub run-small : {s : List ℕ} {i n k : ℕ} → Run s i n k → n < 10000000000
-run-small r = let p = spelled-lt 0 0 10 (r .digits) (lit< tt) (omega (arith, r .most)) in omega (arith, r .value)
+-- their number is below 10^10
+pub run-small : {s : List ℕ} {i n k : ℕ} → Run s i n k → n < 10 ^ 10
+run-small r = let p = ten-digits (r .digits) (r .most) in omega (arith, r .value)
 
 pub run-more : {s : List ℕ} {i n k b d : ℕ} → Run s i n k → b ≡ getD s k 0 → 48 ≤ b → b ≤ 57 → k - i < 10 → d ≡ b - 48
     → Run s i (n * 10 + d) (k + 1)
