@@ -1,11 +1,16 @@
--- A queue of zeros is a queue, and nothing waits in it. Assumes nothing.
+-- A list of zeros; as a queue it is one in which nothing waits. Assumes nothing.
 use mathlib.Core.Path.{_≡_, refl}
 use mathlib.Core.List.{List}
 use mathlib.Core.Logic.{inl}
-use Prim.Native.Nat.{ℕ, _+_, _*_, _%_, _≤_}
+use Prim.Native.Nat.{ℕ, zero, suc, _+_, _*_, _%_, _≤_}
 use native.Mathlib.Omega.{arith}
-use lib.ListN.{length}
+use lib.ListN.{length, replicate}
 use Rattle.frontier.specs.Frontier.{keysFrom, entry, Frontier, Top}
+
+pub zeros : (n i : ℕ) → entry (replicate n 0) i ≡ 0
+zeros zero i = refl
+zeros (suc n) zero = refl
+zeros (suc n) (suc i) = zeros n i
 
 pub empty : (queue : List ℕ) → ((i : ℕ) → entry queue i ≡ 0) → keysFrom ≤ length queue → length queue % 8 ≡ 0 → Frontier queue
 empty queue z l w = record {

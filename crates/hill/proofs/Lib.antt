@@ -2,3 +2,4 @@ pub mod Walks
 pub mod Outcomes
 pub mod Rows
 pub mod Excluded
+pub mod Charges

@@ -38,7 +38,7 @@ pub to-3 : Two 0 3 (0 ∷ 1 ∷ 3 ∷ []) (2 ∷ 3 ∷ [])
 to-3 P hill flat ks by-0-1-3 = hill
 to-3 P hill flat ks by-2-3 = flat
 
-to-2 : Two 0 2 (0 ∷ 1 ∷ []) (2 ∷ [])
+pub to-2 : Two 0 2 (0 ∷ 1 ∷ []) (2 ∷ [])
 to-2 P hill flat ks by-0-1 = hill
 to-2 P hill flat ks by-2 = flat
 
@@ -51,7 +51,7 @@ hill-3 = go 0 (omega arith) refl (go 1 (omega arith) refl (go 3 (omega arith) re
 hill-2 : Walk roads 0 (0 ∷ 1 ∷ []) 2
 hill-2 = go 0 (omega arith) refl (go 1 (omega arith) refl stay)
 
-flat-2 : Walk roads 0 (2 ∷ []) 2
+pub flat-2 : Walk roads 0 (2 ∷ []) 2
 flat-2 = go 2 (omega arith) refl stay
 
 -- ---- rows of best route

@@ -1,3 +1,4 @@
 pub mod Hill
 pub mod Table
 pub mod Broken
+pub mod Charges

@@ -2,4 +2,5 @@ pub mod Files
 pub mod Refusals
 pub mod Check
 pub mod Walks
+pub mod SetOff
 pub mod Claims

@@ -29,6 +29,15 @@ use Rattle.planner.specs.declared.PlanQuestion.{PlanQuestion}
 use Rattle.planner.specs.declared.DriveQuestion.{DriveQuestion}
 use Rattle.planner.specs.declared.ProfileQuestion.{ProfileQuestion}
 
+-- 1, 2
+pub few-junctions : (ns : List ℕ) → junctionFile ns ≡ true → junctions ns ≤ mostJunctions
+few-junctions ns e =
+    let n = both-true (ltb 0 (length ns)) _ e .1 in
+    leb-true _ _ (both-true (eqb (length ns % junctionBytes) 0) (leb (junctions ns) mostJunctions) n .1)
+
+pub few-roads : (rs : List ℕ) → roadFile rs ≡ true → roadCount rs ≤ mostRoads
+few-roads rs e = leb-true _ _ (both-true (eqb (length rs % roadBytes) 0) (leb (roadCount rs) mostRoads) e .1)
+
 -- a natural and its bits, which `whole` is asked for
 pub whole-bits : {z : ℤ} → mag z < 2 ^ 63 → Whole z
     → (leZ (pos 0) (toZ w64 (ofZ w64 z)) ≡ true) × (draw (toZ w64 (ofZ w64 z)) < 2 ^ 32)
@@ -131,17 +140,14 @@ plan-cleared ns rs q list e =
     let a = each-passed (beforePlan ns rs q (length list)) (sym (plan-fault-is ns rs q list) ∙ e) in
     let b = a .1 .1 in
     let c = b .1 .1 in
-    let n = both-true (ltb 0 (length ns)) _ (unless-passed (junctionFile ns) JunctionFile (a .0)) .1 in
     let j =
     both-true (isJunction ns (q .source)) (isJunction ns (q .target))
     (unless-passed (isJunction ns (q .source) && isJunction ns (q .target)) NoJunction (c .0))
     in
     let h = leb-true (junctions ns - 1) (length list) (unless-passed (hasRoom ns list) ShortList (c .1 .0)) in
     record {
-      few = leb-true _ _ (both-true (eqb (length ns % junctionBytes) 0) (leb (junctions ns) mostJunctions) n .1);
-      few-roads =
-          leb-true _ _
-          (both-true (eqb (length rs % roadBytes) 0) (leb (roadCount rs) mostRoads) (unless-passed (roadFile rs) RoadFile (a .1 .0)) .1);
+      few = few-junctions ns (unless-passed (junctionFile ns) JunctionFile (a .0));
+      few-roads = few-roads rs (unless-passed (roadFile rs) RoadFile (a .1 .0));
       battery-ok = unless-passed (isBattery (q .battery)) Battery (b .0);
       start-ok = unless-passed (isStart (q .battery) (q .start)) Start (b .1 .0);
       source-in = ltb-true _ _ (j .0);

@@ -1,4 +1,4 @@
-mod Cleared
+pub mod Cleared
 mod Entries
 mod Early
 mod Searching

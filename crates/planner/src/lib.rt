@@ -292,7 +292,7 @@ fn check_start(nodes: &[u8], roads: &[u8], battery: i64, start: i64) -> Checked
 }
 
 // 1, 2, 3.
-fn check_battery(nodes: &[u8], roads: &[u8], battery: i64) -> Checked
+pub fn check_battery(nodes: &[u8], roads: &[u8], battery: i64) -> Checked
     ensures { λ r. ⌜ r ≡ firstOf (beforeBattery (now (nodes .entry)) (now (roads .entry)) battery) ⌝ }
 {
     let files = network::check_files(nodes, roads);

@@ -1,6 +1,7 @@
-// The rows of document 01 that are run and compared, each refusal of the four entries with its
+// The rows of document 01 that are run and compared, each refusal of the five entries with its
 // place and zeros, and the order of two faults present together. A line is the row's name and the
 // numbers given back.
+mod charges;
 mod checks;
 mod drives;
 mod plans;
@@ -32,4 +33,8 @@ fn main() {
     plans::files();
     plans::orders();
     plans::loops();
+    charges::numbers();
+    charges::refusals();
+    charges::files();
+    charges::orders();
 }

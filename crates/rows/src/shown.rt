@@ -1,5 +1,6 @@
 // How a row is asked and written, and the networks that several rows share. A file is written
 // record by record, least byte first.
+use depot::SetOffQuestion;
 use libc::STDOUT_FILENO;
 use planner::DriveQuestion;
 use planner::PlanQuestion;
@@ -79,6 +80,54 @@ pub fn hill_plan(name: &[u8], question: PlanQuestion, list: &mut [u16]) {
     );
 }
 
+pub fn charges_of(battery: i64, depot: u64) -> SetOffQuestion {
+    SetOffQuestion { battery, depot }
+}
+
+// The charges to set off with: number, place, then the lent list.
+pub fn charges_row(
+    name: &[u8],
+    nodes: &[u8],
+    roads: &[u8],
+    question: SetOffQuestion,
+    list: &mut [i32],
+) {
+    let given = planner::check_numbers(depot::set_off(nodes, roads, question, list));
+    text(name);
+    first(given.number);
+    next(given.place);
+    text(b", list");
+    charges(list);
+    text(b"\n");
+}
+
+// The same on H.
+pub fn hill_charges(name: &[u8], question: SetOffQuestion, list: &mut [i32]) {
+    charges_row(
+        name,
+        b"\x38\xff\xff\xff\x0c\xfe\xff\xff\x00\x00\x00\x00\x00\x00\x00\x00",
+        b"\x00\x00\x01\x00\x2c\x01\x00\x00\x01\x00\x02\x00\x0c\xfe\xff\xff\
+          \x00\x00\x02\x00\x64\x00\x00\x00\x02\x00\x03\x00\x84\x03\x00\x00",
+        question,
+        list,
+    );
+}
+
+// The same on the network of `plans::mixed`.
+pub fn mixed_charges(name: &[u8], question: SetOffQuestion, list: &mut [i32]) {
+    charges_row(
+        name,
+        b"\x5e\x01\x00\x00\x00\x00\x00\x00\xc8\x00\x00\x00\x00\x00\x00\x00\xdc\x05\x00\x00",
+        b"\x00\x00\x01\x00\x90\x01\x00\x00\x01\x00\x00\x00\xa2\xfe\xff\xff\
+          \x00\x00\x01\x00\x5e\x01\x00\x00\x01\x00\x01\x00\x00\x00\x00\x00\
+          \x01\x00\x02\x00\xdc\x05\x00\x00\x01\x00\x02\x00\x38\xff\xff\xff\
+          \x02\x00\x01\x00\xc8\x00\x00\x00\x02\x00\x03\x00\xbc\x02\x00\x00\
+          \x03\x00\x04\x00\x24\xfa\xff\xff",
+        question,
+        list,
+    );
+}
+
 // Hill network H of document 01: potentials -200, -500, 0, 0; roads 0 to 1, 300; 1 to 2, -500;
 // 0 to 2, 100; 2 to 3, 900.
 pub fn hill(name: &[u8], asked: Asked, route: &[u16]) {
@@ -151,6 +200,18 @@ fn entries(list: &[u16]) {
 
 fn entry(road: u16) {
     next(road as u64);
+}
+
+fn charges(list: &[i32]) {
+    let mut i = 0;
+    while i < list.len() {
+        charge(list[i]);
+        i += 1;
+    }
+}
+
+fn charge(x: i32) {
+    signed(x as i64);
 }
 
 fn text(t: &[u8]) {

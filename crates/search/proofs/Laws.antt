@@ -4,60 +4,56 @@
 use mathlib.Core.Path.{_≡_, refl, ap, _∙_}
 use mathlib.Core.Bool.{true}
 use mathlib.Core.List.{List}
-use Prim.Native.Nat.{ℕ, _+_, _≤_, _<_}
-use lib.IntN.{ℤ}
+use Prim.Native.Nat.{ℕ, _+_, _-_, _≤_, _<_}
+use native.Mathlib.Omega.{arith}
+use Rattle.numbers.specs.Signed.{draw, gain}
 use Rattle.battery.specs.declared.Road.{Road}
 use Rattle.network.proofs.Closed.{checked-passing}
 use Rattle.network.proofs.Records.{Sound, all-sound}
 use Rattle.network.specs.Files.{junctions, roadCount, roadOf, potential, passes, Passing}
 use Rattle.walks.specs.Label.{Laws}
-use Rattle.search.specs.Reading.{entered, left, stepForward, stepOf, psiForward, psiOf, psi, net}
+use Rattle.search.specs.Reading.{entered, left, stepOf, psiOf, psi, net}
 use Rattle.search.specs.Steps.{Readable}
 use Rattle.search.specs.declared.Reading.{Reading}
 use Rattle.search.specs.declared.Sense.{Sense}
-use Rattle.search.specs.declared.Sense.the-variants.{Forward}
-use Rattle.search.proofs.StepForward.{forward-mono, forward-gain, forward-le, potential-le, forward-falls}
+use Rattle.search.specs.declared.Sense.the-variants.{Forward, Backward}
+use Rattle.search.proofs.Capped.{Capped, capped-mono, capped-gain, capped-le}
+use Rattle.search.proofs.StepForward.{forward-capped, potential-le, forward-falls}
+use Rattle.search.proofs.StepBackward.{backward-capped, potential-ge, backward-falls}
 
 -- ---- every sense
 
-pub entered-is : (s : Sense) (r : Road) → entered s r ≡ r .tail
-entered-is Forward r = refl
+abbrev pub capOf : Sense → ℕ → Road → ℕ
+capOf Forward M r = M + 1
+capOf Backward M r = M + 1 - draw (r .consumption)
 
-pub left-at : (s : Sense) (r : Road) → left s r ≡ r .head
-left-at Forward r = refl
+step-capped : (s : Sense) (M : ℕ) (r : Road)
+    → Capped (stepOf s M r) (gain (r .consumption)) (draw (r .consumption)) (capOf s M r)
+step-capped Forward M r = forward-capped M r
+step-capped Backward M r = backward-capped M r
 
-pub step-is : (s : Sense) (M : ℕ) (r : Road) (l : ℕ) → stepOf s M r l ≡ stepForward M r l
-step-is Forward M r l = refl
+pub step-le : (s : Sense) (M : ℕ) (r : Road) (l : ℕ) → stepOf s M r l ≤ M + 1
+step-le Forward M r l = capped-le (step-capped Forward M r) l
+step-le Backward M r l = omega (arith, capped-le (step-capped Backward M r) l)
 
-pub psi-is : (s : Sense) (p : ℤ) → psiOf s p ≡ psiForward p
-psi-is Forward p = refl
-
-step-none : (s : Sense) (M : ℕ) (r : Road) → stepOf s M r 0 ≡ 0
-step-none Forward M r = refl
-
-step-mono : (s : Sense) (M : ℕ) (r : Road) (l l' : ℕ) → l ≤ l' → stepOf s M r l ≤ stepOf s M r l'
-step-mono Forward M r l l' h = forward-mono M r l l' h
-
--- a road that passes
+-- a road that passes gains no more than the numbers of its ends fall
 abbrev Passes : List ℕ → Road → Type 0
 Passes ns r = passes (r .consumption) (potential ns (r .tail)) (potential ns (r .head)) ≡ true
 
-step-gain : (s : Sense) (M : ℕ) (ns : List ℕ) (r : Road) (l : ℕ) → Passes ns r → 0 < stepOf s M r l
-    → stepOf s M r l + psiOf s (potential ns (left s r)) ≤ l + psiOf s (potential ns (entered s r))
-step-gain Forward M ns r l e h =
-    let p = potential ns (r .tail) in
-    let q = potential ns (r .head) in
-    forward-gain M r l (psiForward p) (psiForward q)
-    (forward-falls (r .consumption) p q e (potential-le ns (r .tail)) (potential-le ns (r .head))) h
-
-pub step-le : (s : Sense) (M : ℕ) (r : Road) (l : ℕ) → stepOf s M r l ≤ M + 1
-step-le Forward M r l = forward-le M r l
+falls : (s : Sense) (ns : List ℕ) (r : Road) → Passes ns r
+    → psiOf s (potential ns (left s r)) + gain (r .consumption) ≤ psiOf s (potential ns (entered s r)) + draw (r .consumption)
+falls Forward ns r e =
+    forward-falls (r .consumption) (potential ns (r .tail)) (potential ns (r .head)) e (potential-le ns (r .tail)) (potential-le ns (r .head))
+falls Backward ns r e =
+    backward-falls (r .consumption) (potential ns (r .tail)) (potential ns (r .head)) e (potential-ge ns (r .tail)) (potential-ge ns (r .head))
 
 left-in : (s : Sense) (ns : List ℕ) (r : Road) → Sound ns r → left s r < junctions ns
 left-in Forward ns r sound = sound .head-lt
+left-in Backward ns r sound = sound .tail-lt
 
 entered-in : (s : Sense) (ns : List ℕ) (r : Road) → Sound ns r → entered s r < junctions ns
 entered-in Forward ns r sound = sound .tail-lt
+entered-in Backward ns r sound = sound .head-lt
 
 -- ---- the roads of a file
 
@@ -75,9 +71,10 @@ pub laws-of : (rd : Reading) (ns rs : List ℕ) → Passing ns rs → Laws (net 
 unfolding net
 laws-of rd ns rs a =
     record {
-      none = λ k. step-none (rd .sense) (rd .battery) (roadOf rs k);
-      mono = λ k. step-mono (rd .sense) (rd .battery) (roadOf rs k);
-      no-gain = λ k l h. step-gain (rd .sense) (rd .battery) ns (roadOf rs k) l (a .pass k h);
+      none = λ k. step-capped (rd .sense) (rd .battery) (roadOf rs k) .none;
+      mono = λ k. capped-mono (step-capped (rd .sense) (rd .battery) (roadOf rs k));
+      no-gain =
+          λ k l h. capped-gain (step-capped (rd .sense) (rd .battery) (roadOf rs k)) l _ _ (falls (rd .sense) ns (roadOf rs k) (a .pass k h));
     }
 
 -- ---- the roads of checked files

@@ -1,6 +1,9 @@
 pub mod Laws
 pub mod Forward
+pub mod Backward
+mod Capped
 mod StepForward
+mod StepBackward
 mod Counting
 mod Puts
 mod Beginning

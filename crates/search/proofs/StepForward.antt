@@ -17,41 +17,27 @@ use Rattle.battery.specs.declared.Road.{Road}
 use Rattle.network.proofs.Closed.{passes-draws}
 use Rattle.network.specs.Files.{junctionBytes, potential, passes}
 use Rattle.search.specs.Reading.{labelIf, stepForward, mostPotential, psiForward}
+use Rattle.search.proofs.Capped.{Capped}
 
 -- ---- the step
 
-one-sided : (c : ℤ) → 0 < draw c → gain c ≡ 0
+pub one-sided : (c : ℤ) → 0 < draw c → gain c ≡ 0
 one-sided (pos n) h = refl
 one-sided (negsuc n) h = absurd (omega arith)
 
-pub step-forward-is : (M : ℕ) (r : Road) (l : ℕ) → 0 < l
-    → stepForward M r l ≡ min (l + gain (r .consumption) - draw (r .consumption)) (M + 1)
-step-forward-is M r zero h = absurd (omega arith)
-step-forward-is M r (suc b) h = go (drivable b (r .consumption)) (drivable-is b (r .consumption))
+pub forward-capped : (M : ℕ) (r : Road) → Capped (stepForward M r) (gain (r .consumption)) (draw (r .consumption)) (M + 1)
+forward-capped M r = record { none = refl; some = some }
   where
-    go : (t : Bool) → t ≡ leb (draw (r .consumption)) b
+    go : (b : ℕ) (t : Bool) → t ≡ leb (draw (r .consumption)) b
         → labelIf t (chargeAfter M b (r .consumption)) ≡ min (suc b + gain (r .consumption) - draw (r .consumption)) (M + 1)
-    go true e = omega (arith, left-is b (r .consumption), leb-true (draw (r .consumption)) b (sym e))
-    go false e =
+    go b true e = omega (arith, left-is b (r .consumption), leb-true (draw (r .consumption)) b (sym e))
+    go b false e =
         let l = leb-false (draw (r .consumption)) b (sym e) in
         omega (arith, one-sided (r .consumption) (omega arith))
 
-pub forward-mono : (M : ℕ) (r : Road) (l l' : ℕ) → l ≤ l' → stepForward M r l ≤ stepForward M r l'
-forward-mono M r zero l' h = omega arith
-forward-mono M r (suc b) zero h = absurd (omega arith)
-forward-mono M r (suc b) (suc b') h =
-    let e = step-forward-is M r (suc b) (omega arith) in
-    let f = step-forward-is M r (suc b') (omega arith) in
-    omega arith
-
-pub forward-gain : (M : ℕ) (r : Road) (l p q : ℕ) → q + gain (r .consumption) ≤ p + draw (r .consumption)
-    → 0 < stepForward M r l → stepForward M r l + q ≤ l + p
-forward-gain M r zero p q f h = absurd (omega arith)
-forward-gain M r (suc b) p q f h = omega (arith, step-forward-is M r (suc b) (omega arith))
-
-pub forward-le : (M : ℕ) (r : Road) (l : ℕ) → stepForward M r l ≤ M + 1
-forward-le M r zero = omega arith
-forward-le M r (suc b) = omega (arith, step-forward-is M r (suc b) (omega arith))
+    some : (l : ℕ) → 0 < l → stepForward M r l ≡ min (l + gain (r .consumption) - draw (r .consumption)) (M + 1)
+    some zero h = absurd (omega arith)
+    some (suc b) h = go b (drivable b (r .consumption)) (drivable-is b (r .consumption))
 
 -- ---- the number of a junction. Potentials have 32 bits
 

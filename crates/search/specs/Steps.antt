@@ -163,3 +163,13 @@ pub record FindAsks (rd : Reading) (ns rs : List ℕ) (trip : Trip) (list : List
   pub some : 0 < trip .label
   pub label-le : trip .label ≤ rd .battery + 1
   pub room : junctions ns ≤ length list + 1
+
+-- ---- the label of every junction
+
+pub record LabelAsks (rd : Reading) (ns rs : List ℕ) (source label : ℕ) (labels : List ℕ) : Type 0 where
+  pub readable : Readable rd ns rs
+  pub source-in : source < junctions ns
+  pub some : 0 < label
+  pub label-le : label ≤ rd .battery + 1
+  pub long : length labels ≡ mostJunctions
+  pub no-label : (v : ℕ) → entry labels v ≡ 0

@@ -1,20 +1,22 @@
-// The search for the best label of each junction, and the route that brings it. A label is a charge
+// The search for the best label of each junction, and the route that brings it. A label is an amount
 // plus one, and 0 is none.
 ghost use mathlib.Core.Path.{_≡_};
 ghost use Prim.Native.Nat.{_+_, _^_, _<_, min};
 ghost use Rattle.frontier.specs.Frontier.{entry};
 ghost use Rattle.network.specs.Files.{junctions, roadCount};
 ghost use Rattle.search.specs.Chains.{Chained, ChainAsks};
-ghost use Rattle.search.specs.Found.{Finds};
-ghost use Rattle.search.specs.Reading.{entered, left, stepForward, stepOf, psiForward, psiOf, psi, net};
-ghost use Rattle.search.specs.Steps.{StepAsks, better, packed, KeyAsks, OfferAsks, Offered, RelaxAsks, RelaxKeeps, SpreadAsks, SpreadKeeps, ExploreAsks, Explored, FindAsks};
+ghost use Rattle.search.specs.Found.{Finds, Labels};
+ghost use Rattle.search.specs.Reading.{entered, left, stepForward, stepBackward, stepOf, psiForward, psiBackward, psiOf, psi, net};
+ghost use Rattle.search.specs.Steps.{StepAsks, better, packed, KeyAsks, OfferAsks, Offered, RelaxAsks, RelaxKeeps, SpreadAsks, SpreadKeeps, ExploreAsks, Explored, FindAsks, LabelAsks};
 ghost use Rattle.search.specs.Trails.{Trailed, Counted, WriteAsks, Written};
 use battery::Road;
 
 // In which sense roads are read: forward, from tail to head, a label being the charge that a van
-// has, plus one.
+// has, plus one; or backward, from head to tail, a label being the slack, which is the battery size
+// less the charge that a van needs, plus one.
 pub enum Sense {
     Forward,
+    Backward,
 }
 
 // How roads are read.
@@ -77,6 +79,40 @@ pub fn find(nodes: &[u8], roads: &[u8], reading: Reading, trip: Trip, list: &mut
     let count = count_back(roads, reading, &ways, trip.source, target);
     write_back(roads, reading, &ways, trip.source, target, count, list);
     Found::Roads(count)
+}
+
+// The best label of every junction, of all walks from the source with this label; 0 where none comes
+// there. The labels are all 0 at first.
+pub fn label_all(
+    nodes: &[u8],
+    roads: &[u8],
+    reading: Reading,
+    source: usize,
+    label: u32,
+    labels: &mut [u32],
+)
+    requires { ⌜ LabelAsks reading (now nodes) (now roads) source label (now labels) ⌝ }
+    ensures { λ _. ⌜ Labels (net reading (now (roads .entry))) source label (now (labels .exit)) ⌝ }
+{
+    let mut chains = [0u16; CHAINS];
+    let mut ways = [0u16; network::MOST_JUNCTIONS];
+    let mut queue = [0u64; QUEUE];
+    chain(roads, reading, &mut chains);
+    let trip = Trip {
+        source,
+        label,
+        target: network::MOST_JUNCTIONS,
+    };
+    explore(
+        nodes,
+        roads,
+        reading,
+        &chains,
+        trip,
+        labels,
+        &mut ways,
+        &mut queue,
+    );
 }
 
 // Chains the roads: for each junction the last road entered there, for each road the previous one
@@ -272,6 +308,7 @@ impl Reading {
         let sense = self.sense;
         match sense {
             Sense::Forward => road.tail as usize,
+            Sense::Backward => road.head as usize,
         }
     }
 
@@ -282,6 +319,7 @@ impl Reading {
         let sense = self.sense;
         match sense {
             Sense::Forward => road.head as usize,
+            Sense::Backward => road.tail as usize,
         }
     }
 
@@ -293,6 +331,7 @@ impl Reading {
         let sense = self.sense;
         match sense {
             Sense::Forward => step_forward(self.battery, road, label),
+            Sense::Backward => step_backward(self.battery, road, label),
         }
     }
 
@@ -303,6 +342,7 @@ impl Reading {
         let sense = self.sense;
         match sense {
             Sense::Forward => below_most(potential),
+            Sense::Backward => above_least(potential),
         }
     }
 }
@@ -321,6 +361,21 @@ fn step_forward(battery: u32, road: Road, label: u32) -> u32
     }
 }
 
+// The rule read backward: the smaller of slack - consumption and the battery size less the road's
+// own need, as labels.
+fn step_backward(battery: u32, road: Road, label: u32) -> u32
+    requires { ⌜ StepAsks battery road label ⌝ }
+    ensures { λ r. ⌜ r ≡ stepBackward battery road label ⌝ }
+{
+    let needs = numbers::drawn(road.consumption);
+    let has = label + numbers::gained(road.consumption);
+    if needs < has {
+        smaller(has - needs, battery + 1 - needs)
+    } else {
+        0
+    }
+}
+
 fn smaller(x: u32, y: u32) -> u32
     ensures { λ r. ⌜ r ≡ min x y ⌝ }
 {
@@ -332,4 +387,11 @@ fn below_most(potential: i32) -> u32
     ensures { λ r. ⌜ r ≡ psiForward potential ⌝ }
 {
     numbers::whole(2147483647 - potential as i64)
+}
+
+// How far a potential stands above the least.
+fn above_least(potential: i32) -> u32
+    ensures { λ r. ⌜ r ≡ psiBackward potential ⌝ }
+{
+    numbers::whole(potential as i64 + 2147483648)
 }

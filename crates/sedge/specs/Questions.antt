@@ -1,6 +1,7 @@
 -- The parameters of each export, as the question of its entry.
 use Prim.Native.Nat.{ℕ}
 use lib.IntN.{ℤ}
+use Rattle.depot.specs.declared.SetOffQuestion.{SetOffQuestion}
 use Rattle.planner.specs.declared.DriveQuestion.{DriveQuestion}
 use Rattle.planner.specs.declared.PlanQuestion.{PlanQuestion}
 use Rattle.planner.specs.declared.ProfileQuestion.{ProfileQuestion}
@@ -13,3 +14,6 @@ driveQuestion m b u = record { battery = m; start = b; source = u }
 
 abbrev pub profileQuestion : ℤ → ℕ → ProfileQuestion
 profileQuestion m u = record { battery = m; source = u }
+
+abbrev pub setOffQuestion : ℤ → ℕ → SetOffQuestion
+setOffQuestion m d = record { battery = m; depot = d }

@@ -1,7 +1,9 @@
-// The C boundary: the four public entries under their C names. A file or a list is a pointer and a
+// The C boundary: the five public entries under their C names. A file or a list is a pointer and a
 // length; the answers are the planner's numbers, by value. include/sedge.h declares them for C.
+ghost use Rattle.depot.specs.Promise.{SetsOff};
 ghost use Rattle.planner.specs.Promises.{Checks, Plans, Drives, Profiles};
-ghost use Rattle.sedge.specs.Questions.{planQuestion, driveQuestion, profileQuestion};
+ghost use Rattle.sedge.specs.Questions.{planQuestion, driveQuestion, profileQuestion, setOffQuestion};
+use depot::SetOffQuestion;
 use planner::CheckNumbers;
 use planner::DriveNumbers;
 use planner::DriveQuestion;
@@ -73,4 +75,19 @@ pub extern "C" fn sedge_profile(
 {
     let question = ProfileQuestion { battery, source };
     planner::profile_numbers(planner::profile(nodes, roads, question, route))
+}
+
+// The charge to set off with.
+#[no_mangle]
+pub extern "C" fn sedge_set_off(
+    nodes: &[u8],
+    roads: &[u8],
+    battery: i64,
+    depot: u64,
+    list: &mut [i32],
+) -> CheckNumbers
+    ensures { λ r. ⌜ SetsOff (now (nodes .entry)) (now (roads .entry)) (setOffQuestion battery depot) (now (list .entry)) r (now (list .exit)) ⌝ }
+{
+    let question = SetOffQuestion { battery, depot };
+    planner::check_numbers(depot::set_off(nodes, roads, question, list))
 }

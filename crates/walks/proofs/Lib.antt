@@ -1,3 +1,4 @@
 pub mod Bounds
 pub mod Loops
 pub mod Stops
+pub mod Turned

@@ -8,6 +8,10 @@ use Rattle.walks.specs.Claims.{LoopNoMore}
 use Rattle.walks.specs.Label.{Net, Laws, after}
 use Rattle.walks.specs.Walk.{Walk, stay, go}
 
+pub after-append : (N : Net) (ks js : List ℕ) (l : ℕ) → after N (ks ++ js) l ≡ after N js (after N ks l)
+after-append N [] js l = refl
+after-append N (k ∷ ks) js l = after-append N ks js (N .step k l)
+
 module _ (N : Net) (psi : ℕ → ℕ) (laws : Laws N psi) where
   after-none : (ks : List ℕ) → after N ks 0 ≡ 0
   after-none [] = refl
@@ -33,10 +37,6 @@ module _ (N : Net) (psi : ℕ → ℕ) (laws : Laws N psi) where
   after-gain l (go {ks = ks} k h e w) p =
       omega (arith, after-gain (N .step k l) w p, laws .no-gain k l h (step-some ks (N .step k l) p), ap psi e)
 
-  after-append : (ks js : List ℕ) (l : ℕ) → after N (ks ++ js) l ≡ after N js (after N ks l)
-  after-append [] js l = refl
-  after-append (k ∷ ks) js l = after-append ks js (N .step k l)
-
   -- a closed walk brings no more than it set out with
   closed-no-more : {v : ℕ} {ks : List ℕ} (l : ℕ) → Walk (N .roads) v ks v → after N ks l ≤ l
   closed-no-more {ks = ks} l w = by (decLt 0 (after N ks l))
@@ -48,7 +48,7 @@ module _ (N : Net) (psi : ℕ → ℕ) (laws : Laws N psi) where
 pub loop-no-more : LoopNoMore
 loop-no-more N psi laws v l to loop on walk =
     let x = after N to l in
-    let e = after-append N psi laws to (loop ++ on) l in
-    let f = after-append N psi laws loop on x in
-    let g = after-append N psi laws to on l in
+    let e = after-append N to (loop ++ on) l in
+    let f = after-append N loop on x in
+    let g = after-append N to on l in
     omega (arith, after-mono N psi laws on (after N loop x) x (closed-no-more N psi laws x walk))

@@ -2,18 +2,18 @@
 -- labels and the seventh the ways. Assumes nothing.
 use native.Mathlib.Omega.{arith}
 use borrow.Author.Needs.{needs}
-use Rattle.search.proofs.Finding.{chain-asks, explore-asks, finds-nowhere, trailed, write-asks, finds-route}
+use Rattle.search.proofs.Finding.{chain-asks, explore-asks, label-asks, finds-nowhere, trailed, write-asks, finds-route}
 use Rattle.search.proofs.find.Statement.{statement}
 use Rattle.search.proofs.find.Tie as tie
 
 chain-requires : tie.Need-chain-requires
-chain-requires c κs = chain-asks _ _ _ _ _ (c .before .before .before .before .pre)
+chain-requires c κs = chain-asks _ _ _ (c .before .before .before .before .pre .readable)
 
 explore-requires : tie.Need-explore-requires
 explore-requires c κs =
     let chained = c .before .before .before .before .before in
     let start = chained .before .before .before .before .before in
-    explore-asks _ _ _ _ _ (start .pre) _ (chained .chain .ensures)
+    explore-asks _ _ _ _ _ _ (label-asks _ _ _ _ _ (start .pre)) (chained .chain .ensures)
 
 returns : tie.Need-returns
 returns c =

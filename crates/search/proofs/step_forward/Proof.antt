@@ -4,7 +4,7 @@ use native.Mathlib.Omega.{arith}
 use borrow.Author.Needs.{needs}
 use Rattle.numbers.proofs.Bits.{back32}
 use Rattle.numbers.specs.Signed.{draw, gain}
-use Rattle.search.proofs.StepForward.{step-forward-is}
+use Rattle.search.proofs.StepForward.{forward-capped}
 use Rattle.search.proofs.step_forward.Statement.{statement}
 use Rattle.search.proofs.step_forward.Tie as tie
 
@@ -28,14 +28,14 @@ returns c =
     let g = c .before .before in
     let a = g .before .before .before .before .args in
     let p = g .before .before .before .before .pre in
-    omega (arith, c .smaller .ensures, takes g, gives g, step-forward-is (a .battery) (a .road) (a .label) (p .some))
+    omega (arith, c .smaller .ensures, takes g, gives g, forward-capped (a .battery) (a .road) .some (a .label) (p .some))
 
 returns-2 : tie.Need-returns-2
 returns-2 c =
     let g = c .before in
     let a = g .before .before .before .before .args in
     let p = g .before .before .before .before .pre in
-    omega (arith, c .if1 .left, takes g, gives g, step-forward-is (a .battery) (a .road) (a .label) (p .some))
+    omega (arith, c .if1 .left, takes g, gives g, forward-capped (a .battery) (a .road) .some (a .label) (p .some))
 
 pub step-forward-spec : {M : Type 1} → statement M
 step-forward-spec =

@@ -1,0 +1,3 @@
+mod Filling
+pub mod OneOutcome
+pub mod TenBelow

@@ -1,0 +1,47 @@
+-- What is proved of the promise. The proofs are in proofs/.
+use mathlib.Core.Path.{_≡_}
+use mathlib.Core.Bool.{true}
+use mathlib.Core.List.{List}
+use mathlib.Core.Logic.{_⊎_}
+use Prim.Native.Nat.{ℕ}
+use lib.IntN.{ℤ, pos, negsuc}
+use lib.Signed.{ltZ}
+use Rattle.network.specs.Files.{isJunction}
+use Rattle.planner.specs.Order.{isStart, hasRoom}
+use Rattle.planner.specs.Promises.{Plans}
+use Rattle.planner.specs.declared.CheckNumbers.{CheckNumbers}
+use Rattle.planner.specs.declared.PlanNumbers.{PlanNumbers}
+use Rattle.planner.specs.declared.PlanQuestion.{PlanQuestion}
+use Rattle.depot.specs.Promise.{SetsOff, numberAt}
+use Rattle.depot.specs.declared.SetOffQuestion.{SetOffQuestion}
+
+-- one outcome: any two that the promise allows on the same input are equal, lists too
+abbrev pub OneSetOff : Type 0
+OneSetOff =
+    (ns rs : List ℕ) (q : SetOffQuestion) (list : List ℤ) (a b : CheckNumbers) (xs ys : List ℤ)
+    → SetsOff ns rs q list a xs → SetsOff ns rs q list b ys → (a ≡ b) × (xs ≡ ys)
+
+-- the depot itself has 0
+abbrev pub DepotHasZero : Type 0
+DepotHasZero =
+    (ns rs : List ℕ) (q : SetOffQuestion) (list : List ℤ) (a : CheckNumbers) (xs : List ℤ)
+    → SetsOff ns rs q list a xs → a .number ≡ 0 → numberAt xs (q .depot) ≡ pos 0
+
+-- a start below the number z, or any start where z is −1
+abbrev pub Short : ℤ → ℤ → Type 0
+Short start z = (ltZ start z ≡ true) ⊎ (z ≡ negsuc 0)
+
+pub record TenBelow (start z : ℤ) (b : PlanNumbers) : Type 0 where
+  pub only : b .number ≡ 10 → Short start z
+  pub given : Short start z → b .number ≡ 10
+
+-- best route is refused with 10 exactly below it, or always where it is −1: with the same files and battery size, from a
+-- junction to the depot, with a start in range and room for a route
+abbrev pub TenExactlyBelow : Type 0
+TenExactlyBelow =
+    (ns rs : List ℕ) (p : SetOffQuestion) (list : List ℤ) (a : CheckNumbers) (xs : List ℤ)
+    (q : PlanQuestion) (route : List ℕ) (b : PlanNumbers) (ys : List ℕ)
+    → SetsOff ns rs p list a xs → a .number ≡ 0 → Plans ns rs q route b ys
+    → q .battery ≡ p .battery → q .target ≡ p .depot → isStart (q .battery) (q .start) ≡ true
+    → isJunction ns (q .source) ≡ true → hasRoom ns route ≡ true
+    → TenBelow (q .start) (numberAt xs (q .source)) b

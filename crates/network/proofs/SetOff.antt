@@ -1,0 +1,24 @@
+-- The charge to set off with: one number a junction, and every charge from it on is enough. Assumes nothing.
+use mathlib.Core.Path.{_≡_, refl, ap}
+use native.Mathlib.Omega.{arith}
+use lib.IntN.{pos}
+use Rattle.battery.proofs.Monotone.{fixed-route}
+use Rattle.network.specs.Claims.{OneNumber, MoreIsEnough}
+use Rattle.network.specs.SetOff.{least, never}
+use Rattle.network.specs.Walks.{roadsOf}
+
+pub one-number : OneNumber
+one-number M rs v depot x y (least b e m) (least c f n) = let p : b ≡ c = omega (arith, m c f, n b e) in ap pos p
+one-number M rs v depot x y (least b e m) (never n) = absurd (n b e)
+one-number M rs v depot x y (never n) (least c f m) = absurd (n c f)
+one-number M rs v depot x y (never n) (never m) = refl
+
+pub more-is-enough : MoreIsEnough
+more-is-enough M rs v depot b c e h full =
+    let f = fixed-route M M b c (roadsOf rs (e .by)) (e .feasible .van) (omega arith) h (e .feasible .drives) in
+    record {
+      to-full = full;
+      by = e .by;
+      walk = e .walk;
+      feasible = record { van = f .second; drives = f .drives };
+    }
