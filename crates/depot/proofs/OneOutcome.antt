@@ -17,7 +17,7 @@ use Rattle.walks.specs.Walk.{stay}
 use Rattle.planner.proofs.OneOutcome.{same-refusal, not-both}
 use Rattle.planner.specs.Given.{checkNumbers}
 use Rattle.depot.specs.Claims.{OneSetOff, DepotHasZero}
-use Rattle.depot.specs.Promise.{numberAt, Numbered, SetsOff, refused, known}
+use Rattle.depot.specs.Promise.{numberAt, Numbered, refused, known}
 use Rattle.depot.proofs.Filling.{cleared}
 
 module _ {ns rs : List ℕ} {M depot : ℕ} {list xs ys : List ℤ} (a : Numbered ns rs M depot list xs) (b : Numbered ns rs M depot list ys) where

@@ -23,7 +23,7 @@ use Rattle.planner.specs.Promises.{Arrives, NoWalk}
 use Rattle.planner.specs.declared.PlanNumbers.{PlanNumbers}
 use Rattle.planner.specs.declared.PlanQuestion.{PlanQuestion}
 use Rattle.depot.specs.Claims.{Short, TenBelow, TenExactlyBelow}
-use Rattle.depot.specs.Promise.{SetsOff, refused, known}
+use Rattle.depot.specs.Promise.{refused, known}
 use Rattle.depot.specs.declared.SetOffQuestion.{SetOffQuestion}
 use Rattle.depot.proofs.Filling.{Cleared, cleared}
 

@@ -2,7 +2,7 @@
 -- charge is no less than the need, M less the slack: where their sum is above M + 1. They meet at one end of a road exactly
 -- where they meet at the other, so that the best backward label tells the least charge to set off with. Assumes nothing.
 use mathlib.Core.Path.{_≡_, refl, sym, ap, _∙_, subst}
-use mathlib.Core.List.{List, [], _∷_, _++_, reverse, reverse-cons, reverse-reverse}
+use mathlib.Core.List.{List, [], _∷_, reverse, reverse-cons, reverse-reverse}
 use Prim.Native.Nat.{ℕ, zero, suc, _+_, _-_, _≤_, _<_, min}
 use native.Mathlib.Omega.{arith}
 use lib.IntN.{ℤ, pos, negsuc}
@@ -13,11 +13,10 @@ use Rattle.battery.specs.declared.Drove.the-variants.{On, TooLow}
 use Rattle.battery.specs.declared.Road.{Road}
 use Rattle.network.specs.Files.{roadOf}
 use Rattle.network.specs.SetOff.{Enough, SetOff, least, never}
-use Rattle.network.specs.Walks.{Walk, roadsOf, Feasible}
+use Rattle.network.specs.Walks.{roadsOf, Feasible}
 use Rattle.walks.proofs.Loops.{after-append}
-use Rattle.walks.proofs.Turned.{turned, walk-turned}
-use Rattle.walks.specs.Label.{Net, after, Best}
-use Rattle.walks.specs.Walk as walk
+use Rattle.walks.proofs.Turned.{walk-turned}
+use Rattle.walks.specs.Label.{after, Best}
 use Rattle.search.specs.Reading.{stepForward, stepBackward, chargeOf, net}
 use Rattle.search.specs.declared.Reading.{Reading}
 use Rattle.search.specs.declared.Sense.the-variants.{Forward, Backward}
