@@ -1,10 +1,8 @@
 -- A step in naturals: a road that takes d and gives g brings l + g − d from the label l, up to a cap. What the laws of both
 -- senses need of it is arithmetic. Assumes nothing.
-use mathlib.Core.Path.{_≡_, refl}
+use mathlib.Core.Path.{_≡_}
 use Prim.Native.Nat.{ℕ, zero, suc, _+_, _-_, _≤_, _<_, min}
 use native.Mathlib.Omega.{arith}
-use lib.IntN.{ℤ, pos, negsuc}
-use Rattle.numbers.specs.Signed.{draw, gain}
 
 pub record Capped (step : ℕ → ℕ) (g d cap : ℕ) : Type 0 where
   pub none : step 0 ≡ 0
@@ -26,14 +24,3 @@ module _ {step : ℕ → ℕ} {g d cap : ℕ} (c : Capped step g d cap) where
   pub capped-le : (l : ℕ) → step l ≤ cap
   capped-le zero = omega (arith, c .none)
   capped-le (suc b) = omega (arith, c .some (suc b) (omega arith))
-
--- ---- a consumption takes or gives, never both
-
-pub one-sided : (c : ℤ) → 0 < draw c → gain c ≡ 0
-one-sided (pos n) h = refl
-one-sided (negsuc n) h = absurd (omega arith)
-
--- what a road takes is below the label where anything is left
-pub need-below : (c : ℤ) (l : ℕ) → 0 < l → draw c < l + gain c → draw c < l
-need-below (pos n) l h f = omega arith
-need-below (negsuc n) l h f = omega arith

@@ -12,7 +12,7 @@ use Rattle.network.proofs.Closed.{checked-passing}
 use Rattle.network.proofs.Records.{Sound, all-sound}
 use Rattle.network.specs.Files.{junctions, roadCount, roadOf, potential, passes, Passing}
 use Rattle.walks.specs.Label.{Laws}
-use Rattle.search.specs.Reading.{entered, left, stepOf, mostOf, psiOf, psi, net}
+use Rattle.search.specs.Reading.{entered, left, stepOf, psiOf, psi, net}
 use Rattle.search.specs.Steps.{Readable}
 use Rattle.search.specs.declared.Reading.{Reading}
 use Rattle.search.specs.declared.Sense.{Sense}
@@ -23,8 +23,12 @@ use Rattle.search.proofs.StepBackward.{backward-capped, potential-ge, b
 
 -- ---- every sense
 
-pub step-capped : (s : Sense) (M : ℕ) (r : Road)
-    → Capped (stepOf s M r) (gain (r .consumption)) (draw (r .consumption)) (mostOf s M (draw (r .consumption)))
+abbrev pub capOf : Sense → ℕ → Road → ℕ
+capOf Forward M r = M + 1
+capOf Backward M r = M + 1 - draw (r .consumption)
+
+step-capped : (s : Sense) (M : ℕ) (r : Road)
+    → Capped (stepOf s M r) (gain (r .consumption)) (draw (r .consumption)) (capOf s M r)
 step-capped Forward M r = forward-capped M r
 step-capped Backward M r = backward-capped M r
 

@@ -6,7 +6,7 @@ use Prim.Native.Nat.{ℕ, zero, suc, _+_, _-_, _*_, _≤_, _<_, _^_, min}
 use native.Mathlib.Omega.{arith}
 use borrow.Author.Tests.{leb-true, leb-false, le-leb, ltb-false}
 use lib.Dec.{leb, ltb}
-use lib.IntN.{ℤ, pos, _-ℤ_}
+use lib.IntN.{ℤ, pos, negsuc, _-ℤ_}
 use lib.Signed.{mag, leZ}
 use Rattle.numbers.proofs.Diff.{diff-self, diff-pos, diff-minus, diff-leZ, draw-of, draw-lt, gain-le}
 use Rattle.numbers.specs.Bytes.{u32At, signed32, signedPick}
@@ -17,7 +17,8 @@ use Rattle.battery.specs.declared.Road.{Road}
 use Rattle.network.proofs.Closed.{passes-draws}
 use Rattle.network.specs.Files.{junctionBytes, potential, passes}
 use Rattle.search.specs.Reading.{labelIf, stepBackward, mostPotential, leastPotential, psiBackward}
-use Rattle.search.proofs.Capped.{Capped, one-sided}
+use Rattle.search.proofs.Capped.{Capped}
+use Rattle.search.proofs.StepForward.{one-sided}
 
 -- ---- the step
 
@@ -44,6 +45,11 @@ backward-capped M r = record { none = refl; some = some }
         → stepBackward M r l ≡ min (l + gain (r .consumption) - draw (r .consumption)) (M + 1 - draw (r .consumption))
     some zero h = absurd (omega arith)
     some (suc x) h = go x (drivable x (r .consumption)) (leb (draw (r .consumption)) M) (drivable-is x (r .consumption)) refl
+
+-- a road that needs something gives nothing, so that its need is below the label
+pub need-below : (c : ℤ) (l : ℕ) → 0 < l → draw c < l + gain c → draw c < l
+need-below (pos n) l h f = omega arith
+need-below (negsuc n) l h f = omega arith
 
 -- ---- the number of a junction. Potentials have 32 bits
 

@@ -6,7 +6,7 @@ use Prim.Native.Nat.{ℕ, zero, suc, _+_, _-_, _*_, _≤_, _<_, _^_, min}
 use native.Mathlib.Omega.{arith}
 use borrow.Author.Tests.{leb-true, leb-false, le-leb, ltb-true}
 use lib.Dec.{leb, ltb}
-use lib.IntN.{ℤ, pos, _-ℤ_}
+use lib.IntN.{ℤ, pos, negsuc, _-ℤ_}
 use lib.Signed.{mag, leZ}
 use Rattle.numbers.proofs.Diff.{diff-self, diff-pos, diff-minus, diff-leZ, draw-of, draw-lt, gain-le}
 use Rattle.numbers.specs.Bytes.{u32At, signed32, signedPick}
@@ -17,9 +17,13 @@ use Rattle.battery.specs.declared.Road.{Road}
 use Rattle.network.proofs.Closed.{passes-draws}
 use Rattle.network.specs.Files.{junctionBytes, potential, passes}
 use Rattle.search.specs.Reading.{labelIf, stepForward, mostPotential, psiForward}
-use Rattle.search.proofs.Capped.{Capped, one-sided}
+use Rattle.search.proofs.Capped.{Capped}
 
 -- ---- the step
+
+pub one-sided : (c : ℤ) → 0 < draw c → gain c ≡ 0
+one-sided (pos n) h = refl
+one-sided (negsuc n) h = absurd (omega arith)
 
 pub forward-capped : (M : ℕ) (r : Road) → Capped (stepForward M r) (gain (r .consumption)) (draw (r .consumption)) (M + 1)
 forward-capped M r = record { none = refl; some = some }

@@ -3,7 +3,7 @@
 -- charge that is needed. No entry's promise cites this file.
 use mathlib.Core.Bool.{Bool, true, false, _&&_}
 use mathlib.Core.List.{List}
-use Prim.Native.Nat.{ℕ, zero, suc, _+_, _-_, min}
+use Prim.Native.Nat.{ℕ, zero, suc, _-_, min}
 use lib.Dec.{leb}
 use lib.IntN.{ℤ, pos, negsuc, _-ℤ_}
 use Rattle.numbers.specs.Signed.{draw}
@@ -52,11 +52,6 @@ chargeOf M (suc x) = pos (M - x)
 abbrev pub stepOf : Sense → ℕ → Road → ℕ → ℕ
 stepOf Forward M r l = stepForward M r l
 stepOf Backward M r l = stepBackward M r l
-
--- the most that a road brings, as a label: a full battery; backward, a full battery less the road's own need
-abbrev pub mostOf : Sense → ℕ → ℕ → ℕ
-mostOf Forward M need = M + 1
-mostOf Backward M need = M + 1 - need
 
 -- the largest potential and, one further from 0, the least
 abbrev pub mostPotential : ℕ

@@ -36,10 +36,6 @@ pub record StepAsks (M : ℕ) (r : Road) (label : ℕ) : Type 0 where
   pub battery-le : M ≤ mostBattery
   pub ranged : Ranged r
 
-pub record MostAsks (M need : ℕ) : Type 0 where
-  pub battery-le : M ≤ mostBattery
-  pub need-le : need ≤ M + 1
-
 -- the key of a junction that waits, without its place
 abbrev pub waiting : List ℕ → ℕ → ℕ
 waiting queue v = keyAt queue v / places

@@ -6,8 +6,8 @@ ghost use Rattle.frontier.specs.Frontier.{entry};
 ghost use Rattle.network.specs.Files.{junctions, roadCount};
 ghost use Rattle.search.specs.Chains.{Chained, ChainAsks};
 ghost use Rattle.search.specs.Found.{Finds, Labels};
-ghost use Rattle.search.specs.Reading.{entered, left, stepOf, mostOf, psiForward, psiBackward, psiOf, psi, net};
-ghost use Rattle.search.specs.Steps.{StepAsks, MostAsks, better, packed, KeyAsks, OfferAsks, Offered, RelaxAsks, RelaxKeeps, SpreadAsks, SpreadKeeps, ExploreAsks, Explored, FindAsks, LabelAsks};
+ghost use Rattle.search.specs.Reading.{entered, left, stepForward, stepBackward, stepOf, psiForward, psiBackward, psiOf, psi, net};
+ghost use Rattle.search.specs.Steps.{StepAsks, better, packed, KeyAsks, OfferAsks, Offered, RelaxAsks, RelaxKeeps, SpreadAsks, SpreadKeeps, ExploreAsks, Explored, FindAsks, LabelAsks};
 ghost use Rattle.search.specs.Trails.{Trailed, Counted, WriteAsks, Written};
 use battery::Road;
 
@@ -323,30 +323,15 @@ impl Reading {
         }
     }
 
-    // The label that a road brings, from a label where it is entered: what is left of it, up to the
-    // most that the road brings.
+    // The label that a road brings, from a label where it is entered.
     fn step(self, road: Road, label: u32) -> u32
         requires { ⌜ StepAsks (self .battery) road label ⌝ }
         ensures { λ r. ⌜ r ≡ stepOf (self .sense) (self .battery) road label ⌝ }
     {
-        let takes = numbers::drawn(road.consumption);
-        let has = label + numbers::gained(road.consumption);
-        if takes < has {
-            smaller(has - takes, self.most(takes))
-        } else {
-            0
-        }
-    }
-
-    // The most that a road brings: the battery is full; backward, less the road's own need.
-    fn most(self, need: u32) -> u32
-        requires { ⌜ MostAsks (self .battery) need ⌝ }
-        ensures { λ r. ⌜ r ≡ mostOf (self .sense) (self .battery) need ⌝ }
-    {
         let sense = self.sense;
         match sense {
-            Sense::Forward => self.battery + 1,
-            Sense::Backward => self.battery + 1 - need,
+            Sense::Forward => step_forward(self.battery, road, label),
+            Sense::Backward => step_backward(self.battery, road, label),
         }
     }
 
@@ -359,6 +344,35 @@ impl Reading {
             Sense::Forward => below_most(potential),
             Sense::Backward => above_least(potential),
         }
+    }
+}
+
+// By the battery rule: the smaller of charge - consumption and the battery size, as labels.
+fn step_forward(battery: u32, road: Road, label: u32) -> u32
+    requires { ⌜ StepAsks battery road label ⌝ }
+    ensures { λ r. ⌜ r ≡ stepForward battery road label ⌝ }
+{
+    let takes = numbers::drawn(road.consumption);
+    let has = label + numbers::gained(road.consumption);
+    if takes < has {
+        smaller(has - takes, battery + 1)
+    } else {
+        0
+    }
+}
+
+// The rule read backward: the smaller of slack - consumption and the battery size less the road's
+// own need, as labels.
+fn step_backward(battery: u32, road: Road, label: u32) -> u32
+    requires { ⌜ StepAsks battery road label ⌝ }
+    ensures { λ r. ⌜ r ≡ stepBackward battery road label ⌝ }
+{
+    let needs = numbers::drawn(road.consumption);
+    let has = label + numbers::gained(road.consumption);
+    if needs < has {
+        smaller(has - needs, battery + 1 - needs)
+    } else {
+        0
     }
 }
 

@@ -71,7 +71,7 @@ decimal-is n (suc k) h f =
     same-digits k 19 n (omega arith) (f .1) (λ z. subst (λ (j : ℕ). 10 ^ j ≤ n) (omega arith) (f .2 (omega arith)))
 
 -- ---- how many there are
-spell-length : (f n k : ℕ) → n < 10 ^ suc k → length (spell f n) ≤ suc k
+pub spell-length : (f n k : ℕ) → n < 10 ^ suc k → length (spell f n) ≤ suc k
 unfolding spell
 spell-length zero n k h = omega arith
 spell-length (suc f) n k h = go k h (spelling f n) (λ j l. spell-length f (n / 10) j l)
@@ -84,10 +84,6 @@ spell-length (suc f) n k h = go k h (spelling f n) (λ j l. spell-length f (n / 
         let a = ih k (tenth-lt n (suc k) h) in
         let b = length-append (spell f (n / 10)) ((48 + n % 10) ∷ []) in
         omega arith
-
--- of a road's number at most five
-pub five : (n : ℕ) → n < 65536 → length (decimal n) ≤ 5
-five n h = spell-length 19 n 4 (omega arith)
 
 -- ---- what they spell
 spell-digits : (f n : ℕ) → n < 10 ^ suc f → AllDigits (spell f n)

@@ -3,4 +3,4 @@ pub mod Taking
 pub mod Lines
 pub mod Writing
 pub mod Decimal
-pub mod Roads
+pub mod Items

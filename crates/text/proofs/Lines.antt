@@ -4,11 +4,12 @@ use mathlib.Core.List.{List, [], _∷_, _++_, append-assoc}
 use Prim.Native.Nat.{ℕ, _^_, _≤_, _<_}
 use native.Mathlib.Omega.{arith}
 use lib.ListN.{length, drop, length-append}
-use Rattle.text.specs.Claims.{OneReading, RestIsFree, LineIsShort}
+use Rattle.text.specs.Claims.{OneReading, OneDepotReading, RestIsFree, LineIsShort}
 use Rattle.text.specs.Digits.{spelled}
-use Rattle.text.specs.Line.{space, newline, Number, Line, last, then, question, ReadsQuery, query, bad}
+use Rattle.text.specs.Line.{space, newline, Number, Line, last, then, question, query, bad, depotQuestion, depot}
 use Rattle.text.specs.Taking.{NoDigit, Takes, number, nothing}
 use Rattle.text.specs.declared.line.Asked.the-variants as asked
+use Rattle.text.specs.declared.line.AskedDepot.the-variants as askedDepot
 use Rattle.text.specs.declared.line.Taken.the-variants as taken
 use Rattle.text.proofs.Digits.{ten-digits, cut}
 
@@ -26,38 +27,26 @@ number-lt m = let h = ten-digits (m .digits) (m .most) in omega (arith, m .value
 one-number : {n m : ℕ} {t u : List ℕ} → Number n t → Number m u → t ≡ u → n ≡ m
 one-number {m} {u} a b e = sym (a .value) ∙ subst (λ (t : List ℕ). spelled 0 t ≡ m) (sym e) (b .value)
 
--- ---- once a number is taken off, the rest is a line of the others
+-- ---- the number that begins the line is taken off: the rest is a line of the others, and the two make the line; or none is there
 pub peel : {s : List ℕ} {i n m v k : ℕ} {ns : List ℕ} → Takes s i space (taken.Number v k) → Line (n ∷ m ∷ ns) (drop i s)
     → Line (m ∷ ns) (drop k s)
 peel {s} {m} {k} {ns} (number t a e l) (then u rest b f more) =
     let c = cut space space rest (drop k s) (b .digits) (a .digits) no-digit-space no-digit-space (sym f ∙ e) in
     subst (λ (x : List ℕ). Line (m ∷ ns) x) (c .rest) more
 
+pub first-then : {s : List ℕ} {i n m k : ℕ} {ns : List ℕ} → Takes s i space (taken.Number n k) → Line (m ∷ ns) (drop k s)
+    → Line (n ∷ m ∷ ns) (drop i s)
+first-then {s} {k} (number t a e l) more = then t (drop k s) a e more
+
 pub no-then : {s : List ℕ} {i n m : ℕ} {ns : List ℕ} → Takes s i space taken.Nothing → Line (n ∷ m ∷ ns) (drop i s) → ⊥
 no-then {n} (nothing f) (then u rest b e more) = f n u rest b e
 
+-- .. and where it is the last
+pub only-last : {s : List ℕ} {i n k : ℕ} → Takes s i newline (taken.Number n k) → Line (n ∷ []) (drop i s)
+only-last {s} {k} (number t a e l) = last t (drop k s) a e
+
 pub no-last : {s : List ℕ} {i n : ℕ} → Takes s i newline taken.Nothing → Line (n ∷ []) (drop i s) → ⊥
 no-last {n} (nothing f) (last u rest b e) = f n u rest b e
-
--- ---- the query line: the ways in which it is bad, and the one in which it is good
-pub bad-battery : {s : List ℕ} → Takes s 0 space taken.Nothing → ReadsQuery s asked.Bad
-bad-battery a = bad (λ m b u v l. no-then a l)
-
-pub bad-start : {s : List ℕ} {m i : ℕ} → Takes s 0 space (taken.Number m i) → Takes s i space taken.Nothing → ReadsQuery s asked.Bad
-bad-start a b = bad (λ m x u v l. no-then b (peel a l))
-
-pub bad-source : {s : List ℕ} {m i b j : ℕ} → Takes s 0 space (taken.Number m i) → Takes s i space (taken.Number b j)
-    → Takes s j space taken.Nothing → ReadsQuery s asked.Bad
-bad-source a b c = bad (λ m x u v l. no-then c (peel b (peel a l)))
-
-pub bad-target : {s : List ℕ} {m i b j u k : ℕ} → Takes s 0 space (taken.Number m i) → Takes s i space (taken.Number b j)
-    → Takes s j space (taken.Number u k) → Takes s k newline taken.Nothing → ReadsQuery s asked.Bad
-bad-target a b c d = bad (λ m x u v l. no-last d (peel c (peel b (peel a l))))
-
-pub good : {s : List ℕ} {m i b j u k v n : ℕ} → Takes s 0 space (taken.Number m i) → Takes s i space (taken.Number b j)
-    → Takes s j space (taken.Number u k) → Takes s k newline (taken.Number v n) → ReadsQuery s (asked.Query (question m b u v))
-good {s} {m} {i} {b} {j} {u} {k} {v} {n} (number t p e l) (number t2 p2 e2 l2) (number t3 p3 e3 l3) (number t4 p4 e4 l4) =
-    query m b u v (then t (drop i s) p e (then t2 (drop j s) p2 e2 (then t3 (drop k s) p3 e3 (last t4 (drop n s) p4 e4))))
 
 -- where the next number begins, and how large one is
 pub next-inside : {s : List ℕ} {i e v k : ℕ} → Takes s i e (taken.Number v k) → k ≤ length s
@@ -97,6 +86,16 @@ one-reading s a b (query m x u v l) (query m' x' u' v' l') =
 one-reading s a b (query m x u v l) (bad f) = absurd (f m x u v l)
 one-reading s a b (bad f) (query m x u v l) = absurd (f m x u v l)
 one-reading s a b (bad f) (bad g) = refl
+
+pub one-depot-reading : OneDepotReading
+one-depot-reading s a b (depot m d l) (depot m' d' l') =
+    let e = lines-agree l l' in
+    let p : m ≡ m' = cc in
+    let q : d ≡ d' = cc in
+    λ i. askedDepot.Depot (depotQuestion (p i) (q i))
+one-depot-reading s a b (depot m d l) (bad f) = absurd (f m d l)
+one-depot-reading s a b (bad f) (depot m d l) = absurd (f m d l)
+one-depot-reading s a b (bad f) (bad g) = refl
 
 -- ---- what follows the line, and how long the line is
 pub rest-is-free : RestIsFree

@@ -1,5 +1,5 @@
 -- Text put into the buffer: byte by byte, text after text, the whole. Assumes nothing.
-use mathlib.Core.Path.{_≡_, refl, sym, ap, _∙_}
+use mathlib.Core.Path.{_≡_, refl, sym, ap, _∙_, subst}
 use mathlib.Core.List.{List, [], _∷_, _++_, append-assoc, append-nil}
 use Prim.Native.Nat.{ℕ, suc, _+_, _≤_, _<_}
 use native.Mathlib.Nat.{add-zero}
@@ -60,6 +60,10 @@ puts-then {o} {t} {u} {from} p q =
       next = omega arith;
       text = q .text ∙ ap (λ (x : List ℕ). x ++ u) (p .text) ∙ append-assoc (take from o) t u;
     }
+
+-- the same text, told otherwise
+pub puts-as : {o t u o' : List ℕ} {from to : ℕ} → t ≡ u → Puts o from t o' to → Puts o from u o' to
+puts-as {o} {o'} {from} {to} e p = subst (λ (t : List ℕ). Puts o from t o' to) e p
 
 -- the whole text, from the buffer's start
 pub puts-counts : {o t o' : List ℕ} {to : ℕ} → Puts o 0 t o' to → Counts to o'

@@ -1,10 +1,12 @@
 -- The lines that a program writes.
 use mathlib.Core.List.{List, [], _∷_, _++_}
-use Prim.Native.Nat.{ℕ, _-_}
+use Prim.Native.Nat.{ℕ, suc, _-_}
 use mathlib.Core.Bool.{cond}
 use lib.Dec.{eqb}
+use lib.IntN.{ℤ, pos, negsuc}
 use lib.ListN.{take}
 use Rattle.network.specs.Files.{mostJunctions}
+use Rattle.planner.specs.declared.CheckNumbers.{CheckNumbers}
 use Rattle.planner.specs.declared.PlanNumbers.{PlanNumbers}
 use Rattle.text.specs.Digits.{decimal}
 use Rattle.text.specs.Line.{space, newline}
@@ -12,6 +14,11 @@ use Rattle.text.specs.Line.{space, newline}
 -- the most roads of a route: it visits no junction twice
 abbrev pub mostRoute : ℕ
 mostRoute = mostJunctions - 1
+
+-- the most bytes of a refusal's line, and of `bad query` and `no file`: a word of seven letters, two spaces, two numbers of
+-- at most twenty digits and a newline
+abbrev pub mostRefusal : ℕ
+mostRefusal = 50
 
 -- the words, byte by byte
 abbrev pub arrival : List ℕ
@@ -47,10 +54,24 @@ numberLine n = decimal n ++ (newline ∷ [])
 abbrev pub wordLine : List ℕ → ℕ → List ℕ
 wordLine w n = w ++ (space ∷ numberLine n)
 
--- numbers, one to a line
-unfoldable pub numberLines : List ℕ → List ℕ
-numberLines [] = []
-numberLines (n ∷ ns) = numberLine n ++ numberLines ns
+-- a signed number on a line: a minus sign, the byte 45, before the size of a negative one
+abbrev pub minus : ℕ
+minus = 45
+
+abbrev pub signedLine : ℤ → List ℕ
+signedLine (pos n) = numberLine n
+signedLine (negsuc n) = minus ∷ numberLine (suc n)
+
+-- items, one to a line
+unfoldable pub itemLines : {A : Type 0} → (A → List ℕ) → List A → List ℕ
+itemLines line [] = []
+itemLines line (x ∷ xs) = line x ++ itemLines line xs
+
+abbrev pub numberLines : List ℕ → List ℕ
+numberLines ns = itemLines numberLine ns
+
+abbrev pub signedLines : List ℤ → List ℕ
+signedLines zs = itemLines signedLine zs
 
 -- a route: its numbers, then each road number in driving order
 unfoldable pub routeText : PlanNumbers → List ℕ → List ℕ
@@ -68,3 +89,8 @@ refusedText number place = refused ++ (space ∷ (decimal number ++ (space ∷ n
 -- what best route gives back, with the lent list after it: a success is written as a route, anything else as a refusal
 abbrev pub answerText : PlanNumbers → List ℕ → List ℕ
 answerText a xs = cond (eqb (a .number) 0) (routeText a (take (a .roads) xs)) (refusedText (a .number) (a .place))
+
+-- what set off gives back, with the lent list after it and the count n of junctions: a success is written as the junctions'
+-- numbers, anything else as a refusal
+abbrev pub setOffText : CheckNumbers → ℕ → List ℤ → List ℕ
+setOffText a n xs = cond (eqb (a .number) 0) (signedLines (take n xs)) (refusedText (a .number) (a .place))

@@ -5,12 +5,16 @@ use mathlib.Core.Logic.{_≢_}
 use Prim.Native.Nat.{ℕ, _*_, _^_, _≤_, _<_}
 use lib.ListN.{length, getD}
 use Rattle.text.specs.Digits.{AllDigits, spelled, decimal}
-use Rattle.text.specs.Line.{Line, ReadsQuery}
+use Rattle.text.specs.Line.{Line, ReadsQuery, ReadsDepot}
 use Rattle.text.specs.declared.line.Asked.{Asked}
+use Rattle.text.specs.declared.line.AskedDepot.{AskedDepot}
 
--- the bytes ask one thing
+-- the bytes ask one thing, of the best route and of a depot
 abbrev pub OneReading : Type 0
 OneReading = (s : List ℕ) (a b : Asked) → ReadsQuery s a → ReadsQuery s b → a ≡ b
+
+abbrev pub OneDepotReading : Type 0
+OneDepotReading = (s : List ℕ) (a b : AskedDepot) → ReadsDepot s a → ReadsDepot s b → a ≡ b
 
 -- what follows a line is ignored
 abbrev pub RestIsFree : Type 0

@@ -5,9 +5,12 @@ use Prim.Native.Nat.{ℕ, _≤_}
 use lib.IntN.{pos}
 use lib.ListN.{length}
 use Rattle.planner.specs.declared.PlanQuestion.{PlanQuestion}
+use Rattle.depot.specs.declared.SetOffQuestion.{SetOffQuestion}
 use Rattle.text.specs.Digits.{AllDigits, spelled}
 use Rattle.text.specs.declared.line.Asked.{Asked}
-use Rattle.text.specs.declared.line.Asked.the-variants.{Query, Bad}
+use Rattle.text.specs.declared.line.Asked.the-variants as asked
+use Rattle.text.specs.declared.line.AskedDepot.{AskedDepot}
+use Rattle.text.specs.declared.line.AskedDepot.the-variants as askedDepot
 
 -- the bytes of a space and of a newline
 abbrev pub space : ℕ
@@ -35,5 +38,14 @@ question m b u v = record { battery = pos m; start = pos b; source = u; target =
 
 -- what the bytes ask; any other line is a bad query
 pub data ReadsQuery (s : List ℕ) : Asked → Type 0 where
-  query : (m b u v : ℕ) → Line (m ∷ b ∷ u ∷ v ∷ []) s → ReadsQuery s (Query (question m b u v))
-  bad : ((m b u v : ℕ) → Line (m ∷ b ∷ u ∷ v ∷ []) s → ⊥) → ReadsQuery s Bad
+  query : (m b u v : ℕ) → Line (m ∷ b ∷ u ∷ v ∷ []) s → ReadsQuery s (asked.Query (question m b u v))
+  bad : ((m b u v : ℕ) → Line (m ∷ b ∷ u ∷ v ∷ []) s → ⊥) → ReadsQuery s asked.Bad
+
+-- the line of a depot: battery, depot
+abbrev pub depotQuestion : ℕ → ℕ → SetOffQuestion
+depotQuestion m d = record { battery = pos m; depot = d }
+
+-- what the bytes ask by such a line
+pub data ReadsDepot (s : List ℕ) : AskedDepot → Type 0 where
+  depot : (m d : ℕ) → Line (m ∷ d ∷ []) s → ReadsDepot s (askedDepot.Depot (depotQuestion m d))
+  bad : ((m d : ℕ) → Line (m ∷ d ∷ []) s → ⊥) → ReadsDepot s askedDepot.Bad

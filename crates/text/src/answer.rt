@@ -3,41 +3,50 @@
 ghost use Prim.Native.Nat.{_+_, _*_, _≤_, _<_};
 ghost use mathlib.Core.Path.{_≡_};
 ghost use lib.ListN.{length, take};
+ghost use Rattle.network.specs.Files.{mostJunctions};
 ghost use Rattle.io.specs.Counts.{Counts};
 ghost use Rattle.text.specs.Digits.{decimal};
-ghost use Rattle.text.specs.Answer.{mostRoute, numberLine, wordLine, numberLines, routeText, refusedText, badQuery, noFile};
+ghost use Rattle.text.specs.Answer.{mostRoute, mostRefusal, numberLine, wordLine, signedLine, numberLines, signedLines, routeText, refusedText, badQuery, noFile};
 ghost use Rattle.text.specs.Writing.{Puts};
 use planner::PlanNumbers;
 
 // The most roads of a route: it visits no junction twice.
 pub const MOST_ROUTE: usize = network::MOST_JUNCTIONS - 1;
 
-// The most bytes of a line: nine letters, a space, twenty digits and a newline; or a road's number,
-// of five digits, and a newline. A number is put only where twenty digits fit.
+// The most bytes of a line: nine letters, a space, twenty digits and a newline; a road's number, of
+// five digits, and a newline; or a minus sign, the ten digits of a 32-bit number and a newline. A
+// number is put only where twenty digits fit.
 const WORD_LINE: usize = 31;
 
 const ROAD_LINE: usize = 6;
 
+const CHARGE_LINE: usize = 12;
+
 const SPARE: usize = 20;
 
-// Room for the longest answer.
+// Room for the longest route, and for the numbers of all junctions.
 pub const MOST_TEXT: usize = 5 * WORD_LINE + MOST_ROUTE * ROAD_LINE + SPARE;
 
-pub fn write_bad_query(out: &mut [u8; MOST_TEXT]) -> usize
+pub const MOST_CHARGES: usize = network::MOST_JUNCTIONS * CHARGE_LINE + SPARE;
+
+pub fn write_bad_query(out: &mut [u8]) -> usize
+    requires { ⌜ mostRefusal ≤ length (now out) ⌝ }
     ensures { λ r. ⌜ Counts r (now (out .exit)) ⌝ }
     ensures { λ r. ⌜ take r (now (out .exit)) ≡ badQuery ⌝ }
 {
     put(out, 0, b"bad query\n")
 }
 
-pub fn write_no_file(out: &mut [u8; MOST_TEXT]) -> usize
+pub fn write_no_file(out: &mut [u8]) -> usize
+    requires { ⌜ mostRefusal ≤ length (now out) ⌝ }
     ensures { λ r. ⌜ Counts r (now (out .exit)) ⌝ }
     ensures { λ r. ⌜ take r (now (out .exit)) ≡ noFile ⌝ }
 {
     put(out, 0, b"no file\n")
 }
 
-pub fn write_refusal(out: &mut [u8; MOST_TEXT], number: u64, place: u64) -> usize
+pub fn write_refusal(out: &mut [u8], number: u64, place: u64) -> usize
+    requires { ⌜ mostRefusal ≤ length (now out) ⌝ }
     ensures { λ r. ⌜ Counts r (now (out .exit)) ⌝ }
     ensures { λ r. ⌜ take r (now (out .exit)) ≡ refusedText number place ⌝ }
 {
@@ -61,6 +70,15 @@ pub fn write_route(out: &mut [u8; MOST_TEXT], given: PlanNumbers, route: &[u16])
     put_roads(out, at, route)
 }
 
+// The numbers of the junctions, one to a line.
+pub fn write_charges(out: &mut [u8; MOST_CHARGES], list: &[i32]) -> usize
+    requires { ⌜ length (now list) ≤ mostJunctions ⌝ }
+    ensures { λ r. ⌜ Counts r (now (out .exit)) ⌝ }
+    ensures { λ r. ⌜ take r (now (out .exit)) ≡ signedLines (now (list .entry)) ⌝ }
+{
+    put_charges(out, list)
+}
+
 // Each road's number, one to a line.
 fn put_roads(out: &mut [u8], from: usize, route: &[u16]) -> usize
     requires { ⌜ from + 6 * length (now route) + 20 ≤ length (now out) ⌝ }
@@ -70,6 +88,20 @@ fn put_roads(out: &mut [u8], from: usize, route: &[u16]) -> usize
     let mut i = 0;
     while i < route.len() {
         at = put_number_line(out, at, wide(route[i]));
+        i += 1;
+    }
+    at
+}
+
+// Each junction's number, one to a line, from the buffer's start.
+fn put_charges(out: &mut [u8], list: &[i32]) -> usize
+    requires { ⌜ 12 * length (now list) + 20 ≤ length (now out) ⌝ }
+    ensures { λ r. ⌜ Puts (now (out .entry)) 0 (signedLines (now (list .entry))) (now (out .exit)) r ⌝ }
+{
+    let mut at = 0;
+    let mut i = 0;
+    while i < list.len() {
+        at = put_signed_line(out, at, list[i]);
         i += 1;
     }
     at
@@ -94,6 +126,20 @@ fn put_number_line(out: &mut [u8], from: usize, n: u64) -> usize
 {
     let at = put_decimal(out, from, n);
     put(out, at, b"\n")
+}
+
+// A signed number on a line: a minus sign and its size, or the number.
+fn put_signed_line(out: &mut [u8], from: usize, n: i32) -> usize
+    requires { ⌜ from + 22 ≤ length (now out) ⌝ }
+    ensures { λ r. ⌜ Puts (now (out .entry)) from (signedLine n) (now (out .exit)) r ⌝ }
+    ensures { λ r. ⌜ r ≤ from + 12 ⌝ }
+{
+    if n < 0 {
+        let at = put(out, from, b"-");
+        put_number_line(out, at, numbers::gained(n) as u64)
+    } else {
+        put_number_line(out, from, numbers::drawn(n) as u64)
+    }
 }
 
 // A number in decimal digits, without leading zeros.

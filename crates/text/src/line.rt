@@ -4,13 +4,20 @@ ghost use mathlib.Core.Path.{_≡_};
 ghost use Prim.Native.Nat.{_≤_};
 ghost use lib.ListN;
 ghost use lib.ListN.{length};
-ghost use Rattle.text.specs.Line.{ReadsQuery};
+ghost use Rattle.text.specs.Line.{ReadsQuery, ReadsDepot};
 ghost use Rattle.text.specs.Taking.{Ran, Takes, Ends};
+use depot::SetOffQuestion;
 use planner::PlanQuestion;
 
 // What the query line asks, or that it is a bad query.
 pub enum Asked {
     Query(PlanQuestion),
+    Bad,
+}
+
+// What the line of a depot asks, or that it is a bad query.
+pub enum AskedDepot {
+    Depot(SetOffQuestion),
     Bad,
 }
 
@@ -54,6 +61,24 @@ pub fn read_query(line: &[u8]) -> Asked
         start: b as i64,
         source: u,
         target: v,
+    })
+}
+
+// The line of a depot: battery, depot.
+pub fn read_depot(line: &[u8]) -> AskedDepot
+    ensures { λ r. ⌜ ReadsDepot (now (line .entry)) r ⌝ }
+{
+    let first = take_number(line, 0, b' ');
+    let Taken::Number(battery, i) = first else {
+        return AskedDepot::Bad;
+    };
+    let second = take_number(line, i, b'\n');
+    let Taken::Number(depot, _) = second else {
+        return AskedDepot::Bad;
+    };
+    AskedDepot::Depot(SetOffQuestion {
+        battery: battery as i64,
+        depot,
     })
 }
 

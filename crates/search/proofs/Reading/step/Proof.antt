@@ -1,65 +1,30 @@
--- `search::Reading::step` meets its contract: what the code works out is the step in naturals. Assumes nothing.
-use mathlib.Core.Path.{_≡_, ap, _∙_}
-use native.Mathlib.Omega.{arith}
+-- `search::Reading::step` meets its contract. Assumes nothing.
+use mathlib.Core.Path.{sym, ap, _∙_}
 use borrow.Author.Needs.{needs}
-use Rattle.numbers.proofs.Bits.{back32}
-use Rattle.numbers.specs.Signed.{draw, gain}
-use Rattle.search.proofs.Capped.{need-below}
-use Rattle.search.proofs.Laws.{step-capped}
-use Rattle.search.specs.Reading.{mostOf}
+use Rattle.search.specs.Reading.{stepOf}
+use Rattle.search.specs.declared.Sense.{Sense}
 use Rattle.search.proofs.Reading.step.Statement.{statement}
 use Rattle.search.proofs.Reading.step.Tie as tie
 
-takes : (c : tie.After-gained) → c .before .before .drawn .result ≡ draw (c .before .before .before .before .args .road .consumption)
-takes c =
-    let z = c .before .before .before .before .args .road .consumption in
-    c .before .before .drawn .ensures ∙ ap draw (back32 {z = z} (c .before .before .before .struct-told .given .1 .1 .0 .1))
-
-gives : (c : tie.After-gained) → c .gained .result ≡ gain (c .before .before .before .before .args .road .consumption)
-gives c =
-    let z = c .before .before .before .before .args .road .consumption in
-    c .gained .ensures ∙ ap gain (back32 {z = z} (c .before .struct-told2 .given .1 .1 .0 .1))
-
-add-has : tie.Need-add-has
-add-has c =
-    let p = c .before .before .before .before .pre in
-    omega (arith, gives c, p .label-le, p .battery-le, p .ranged .gain-le)
-
--- the road's own need is no more than a full battery
-most-requires : tie.Need-most-requires
-most-requires c κs =
-    let g = c .before in
-    let a = g .before .before .before .before .args in
-    let p = g .before .before .before .before .pre in
-    let t = c .if1 .taken in
-    let n = need-below (a .road .consumption) (a .label) (p .some) (omega (arith, takes g, gives g)) in
-    record { battery-le = p .battery-le; need-le = omega (arith, takes g, p .label-le) }
-
 returns : tie.Need-returns
 returns c =
-    let m = c .before in
-    let g = m .before .before in
-    let a = g .before .before .before .before .args in
-    let p = g .before .before .before .before .pre in
-    let e = m .most .ensures ∙ ap (mostOf (a .self .sense) (a .self .battery)) (takes g) in
-    omega (arith, c .smaller .ensures, takes g, gives g, step-capped (a .self .sense) (a .self .battery) (a .road) .some (a .label) (p .some))
+    let a = c .before .before .before .args in
+    c .step-forward .ensures
+    ∙ ap (λ (s : Sense). stepOf s (a .self .battery) (a .road) (a .label)) (sym (c .before .enum-told .given .1))
 
 returns-2 : tie.Need-returns-2
 returns-2 c =
-    let g = c .before in
-    let a = g .before .before .before .before .args in
-    let p = g .before .before .before .before .pre in
-    omega (arith, c .if1 .left, takes g, gives g, step-capped (a .self .sense) (a .self .battery) (a .road) .some (a .label) (p .some))
+    let a = c .before .before .before .args in
+    c .step-backward .ensures
+    ∙ ap (λ (s : Sense). stepOf s (a .self .battery) (a .road) (a .label)) (sym (c .before .enum-told2 .given .1))
 
 pub step-spec : {M : Type 1} → statement M
 step-spec =
     tie.close
     (tie.spec
-    (λ c κs. search needs)
-    (λ c κs. search needs)
-    add-has
     (λ c. search needs)
-    most-requires
+    (λ c κs. search needs)
+    (λ c. search needs)
     (λ c κs. search needs)
     returns
     returns-2)

@@ -4,12 +4,13 @@ use Prim.Native.Nat.{_-_}
 use native.Mathlib.Omega.{arith}
 use borrow.Author.Needs.{needs}
 use lib.ListN.{length}
-use Rattle.text.proofs.Roads.{Listing, listing-none, listing-more, listing-all}
+use Rattle.text.specs.Answer.{numberLine}
+use Rattle.text.proofs.Items.{road-line, Listing, listing-none, listing-more, listing-all}
 use Rattle.text.proofs.answer.put_roads.Statement.{statement}
 use Rattle.text.proofs.answer.put_roads.Tie as tie
 
 abbrev Inv-loop : tie.InvT-loop
-Inv-loop out₀ from route at₀ i₀ out at i = Listing out₀ from route out at i
+Inv-loop out₀ from route at₀ i₀ out at i = Listing numberLine 6 out₀ from route out at i
 
 abbrev μ-loop : tie.MeasureT-loop
 μ-loop out₀ from route at₀ i₀ out at i = length route - i
@@ -22,9 +23,9 @@ put-number-line-requires c κs =
 
 loop-again : tie.Need-loop-again Inv-loop μ-loop
 loop-again c =
-    let road = c .before .before .before .wide .ensures in
+    let road = c .before .before .before .wide in
     let put = c .before .before .put-number-line in
-    listing-more (c .before .before .before .before .before .before .before .loop .inv) (c .before .before .before .before .before .before .loop-test .taken) (road .0) (road .1) (put .kept .0) (put .ensures .0)
+    listing-more numberLine 6 0 (c .before .before .before .before .before .before .before .loop .inv) (c .before .before .before .before .before .before .loop-test .taken) (road .ensures .0) (put .kept .0) (put .ensures .0) (omega (arith, put .ensures .0 .next, road-line (road .result) (road .ensures .1)))
 
 pub put-roads-spec : {M : Type 1} → statement M
 put-roads-spec =
@@ -32,7 +33,7 @@ put-roads-spec =
     (tie.spec
     Inv-loop
     μ-loop
-    (λ c. listing-none (c .before .before .args .out .now) (c .before .before .args .from) (c .before .before .args .route .now))
+    (λ c. listing-none numberLine 6 (c .before .before .args .out .now) (c .before .before .args .from) (c .before .before .args .route .now))
     (λ c. search needs)
     (λ c. search needs)
     (λ c κs. search needs)
@@ -41,4 +42,4 @@ put-roads-spec =
     (λ c. search needs)
     loop-again
     (λ c. c .before .loop .inv .same)
-    (λ c. listing-all (c .before .loop .inv) (c .loop-test .left)))
+    (λ c. listing-all numberLine 6 (c .before .loop .inv) (c .loop-test .left)))

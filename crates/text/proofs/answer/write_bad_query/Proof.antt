@@ -10,4 +10,5 @@ write-bad-query-spec =
     (tie.spec
     (λ c. search needs)
     (λ c κs. search needs)
-    (λ c. (puts-counts (c .put .ensures), c .put .ensures .text)))
+    (λ c. search needs)
+    (λ c. let p = c .before .before .put .ensures in (puts-counts p, p .text)))

@@ -8,10 +8,12 @@ use Rattle.text.proofs.answer.write_refusal.Tie as tie
 returns : tie.Need-returns
 unfolding refusedText
 returns c =
-    let w = c .before .before .before .before .before .before .before .put .ensures in
-    let n = c .before .before .before .before .before .put-decimal .ensures .0 in
-    let s = c .before .before .put2 .ensures in
-    let all = puts-then w (puts-then n (puts-then s (c .put-number-line .ensures .0))) in
+    let line = c .before .before in
+    let space = line .before .before .before .before in
+    let number = space .before .before .before .before .before in
+    let word = number .before .before .before .before .put .ensures in
+    let all =
+    puts-then word (puts-then (number .put-decimal .ensures .0) (puts-then (space .put2 .ensures) (line .put-number-line .ensures .0))) in
     (puts-counts all, all .text)
 
 pub write-refusal-spec : {M : Type 1} → statement M
@@ -24,4 +26,5 @@ write-refusal-spec =
     (λ c. search needs)
     (λ c κs. search needs)
     (λ c κs. search needs)
+    (λ c. search needs)
     returns)

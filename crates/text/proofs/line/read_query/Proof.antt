@@ -6,10 +6,10 @@ use native.Mathlib.Omega.{arith}
 use borrow.Author.Needs.{needs}
 use mir.Facts.{toZ-pos}
 use mir.Syntax.{w64}
-use Rattle.text.specs.Line.{space, newline}
+use Rattle.text.specs.Line.{space, newline, ReadsQuery}
 use Rattle.text.specs.Taking.{Takes}
 use Rattle.text.specs.declared.line.Taken.the-variants as taken
-use Rattle.text.proofs.Lines.{bad-battery, bad-start, bad-source, bad-target, good, next-inside, taken-small}
+use Rattle.text.proofs.Lines.{peel, first-then, no-then, only-last, no-last, next-inside, taken-small}
 use Rattle.text.proofs.line.read_query.Statement.{statement}
 use Rattle.text.proofs.line.read_query.Tie as tie
 
@@ -61,25 +61,27 @@ target c =
 -- ---- where one of them is missing
 
 returns : tie.Need-returns
-returns c = bad-battery (subst (Takes (c .before .before .before .before .args .line .now) 0 space) (c .enum-told .given .1) (c .before .before .take-number .ensures))
+returns c =
+    let none = subst (Takes (c .before .before .before .before .args .line .now) 0 space) (c .enum-told .given .1) (c .before .before .take-number .ensures) in
+    ReadsQuery.bad (λ m b u v l. no-then none l)
 
 returns-2 : tie.Need-returns-2
 returns-2 c =
     let had = c .before .before .before in
-    bad-start (battery had)
-    (subst (Takes (line had) (battery-end had) space) (c .enum-told2 .given .1) (c .before .before .take-number2 .ensures))
+    let none = subst (Takes (line had) (battery-end had) space) (c .enum-told2 .given .1) (c .before .before .take-number2 .ensures) in
+    ReadsQuery.bad (λ m b u v l. no-then none (peel (battery had) l))
 
 returns-3 : tie.Need-returns-3
 returns-3 c =
     let had = c .before .before .before in
-    bad-source (battery (first had)) (start had)
-    (subst (Takes (line (first had)) (start-end had) space) (c .enum-told3 .given .1) (c .before .before .take-number3 .ensures))
+    let none = subst (Takes (line (first had)) (start-end had) space) (c .enum-told3 .given .1) (c .before .before .take-number3 .ensures) in
+    ReadsQuery.bad (λ m b u v l. no-then none (peel (start had) (peel (battery (first had)) l)))
 
 returns-4 : tie.Need-returns-4
 returns-4 c =
     let had = c .before .before .before in
-    bad-target (battery (first (second had))) (start (second had)) (source had)
-    (subst (Takes (line (first (second had))) (source-end had) newline) (c .enum-told4 .given .1) (c .before .before .take-number4 .ensures))
+    let none = subst (Takes (line (first (second had))) (source-end had) newline) (c .enum-told4 .given .1) (c .before .before .take-number4 .ensures) in
+    ReadsQuery.bad (λ m b u v l. no-last none (peel (source had) (peel (start (second had)) (peel (battery (first (second had))) l))))
 
 -- ---- where all four are there; battery and start become signed numbers
 
@@ -97,7 +99,8 @@ returns-5 c =
       toZ-pos w64 {n = first (second (third c)) .before .battery .given .0 .0} (omega arith),
       toZ-pos w64 {n = second (third c) .before .start .given .0 .0} (omega arith),
     )
-    (good (battery (first (second (third c)))) (start (second (third c))) (source (third c)) (target c))
+    (ReadsQuery.query _ _ _ _
+    (first-then (battery (first (second (third c)))) (first-then (start (second (third c))) (first-then (source (third c)) (only-last (target c))))))
 
 pub read-query-spec : {M : Type 1} → statement M
 read-query-spec =

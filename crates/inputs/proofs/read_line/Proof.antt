@@ -1,12 +1,12 @@
--- `plan::read_line` meets its contract. Invariant: n bytes of the line are read. Measure: the room left. Assumes nothing.
+-- `inputs::read_line` meets its contract. Invariant: n bytes of the line are read. Measure: the room left. Assumes nothing.
 use mathlib.Core.Path.{_≡_}
 use Prim.Native.Nat.{_≤_, _-_}
 use native.Mathlib.Omega.{arith}
 use borrow.Author.Needs.{needs}
 use lib.ListN.{length}
 use Rattle.io.proofs.Counting.{counts}
-use Rattle.plan.proofs.read_line.Statement.{statement}
-use Rattle.plan.proofs.read_line.Tie as tie
+use Rattle.inputs.proofs.read_line.Statement.{statement}
+use Rattle.inputs.proofs.read_line.Tie as tie
 
 abbrev Inv-loop : tie.InvT-loop
 Inv-loop line₀ n₀ line n = (n ≤ length line) × (length line ≡ length line₀)

@@ -1,12 +1,12 @@
--- `plan::read_all` meets its contract. Invariant: so many bytes of the room are filled. Measure: the room left. Assumes nothing.
+-- `inputs::read_all` meets its contract. Invariant: so many bytes of the room are filled. Measure: the room left. Assumes nothing.
 use mathlib.Core.Path.{_≡_, refl}
 use Prim.Native.Nat.{_≤_, _-_}
 use native.Mathlib.Omega.{arith}
 use borrow.Author.Needs.{needs}
 use lib.ListN.{length}
 use Rattle.io.proofs.Counting.{counts}
-use Rattle.plan.proofs.read_all.Statement.{statement}
-use Rattle.plan.proofs.read_all.Tie as tie
+use Rattle.inputs.proofs.read_all.Statement.{statement}
+use Rattle.inputs.proofs.read_all.Tie as tie
 
 abbrev Inv-loop : tie.InvT-loop
 Inv-loop file room₀ count₀ room count = (count ≤ length room) × (length room ≡ length room₀)

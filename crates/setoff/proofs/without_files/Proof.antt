@@ -1,0 +1,35 @@
+-- `setoff::without_files` meets its contract. Assumes nothing.
+use mathlib.Core.Path.{subst}
+use borrow.Author.Needs.{needs}
+use Rattle.text.specs.Line.{ReadsDepot}
+use Rattle.setoff.specs.Response.{WithoutFiles}
+use Rattle.setoff.proofs.Answered.{no-query, no-file}
+use Rattle.setoff.proofs.without_files.Statement.{statement}
+use Rattle.setoff.proofs.without_files.Tie as tie
+
+returns : tie.Need-returns
+returns c =
+    let written = c .write-no-file .ensures in
+    let read = c .before .before .before .before in
+    let line = read .before .before .args .line .now in
+    (written .0, rw (written .1) (no-file (subst (ReadsDepot line) (c .before .before .enum-told .given .1) (read .read-depot .ensures))))
+
+returns-2 : tie.Need-returns-2
+returns-2 c =
+    let written = c .write-bad-query .ensures in
+    let read = c .before .before .before .before in
+    let line = read .before .before .args .line .now in
+    let asked = subst (ReadsDepot line) (c .before .before .enum-told2 .given .1) (read .read-depot .ensures) in
+    (written .0, rw (written .1) (WithoutFiles.bad (no-query asked)))
+
+pub without-files-spec : {M : Type 1} → statement M
+without-files-spec =
+    tie.close
+    (tie.spec
+    (λ c κs. search needs)
+    (λ c. search needs)
+    (λ c κs. search needs)
+    (λ c. search needs)
+    (λ c κs. search needs)
+    returns
+    returns-2)
