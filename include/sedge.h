@@ -1,4 +1,4 @@
-/* The planner's C boundary: four functions of two files, numbers and a route.
+/* The planner's C boundary: five functions of two files, numbers and a lent list.
  *
  * Files. nodes: 4 bytes a junction, its potential (signed). roads: 8 bytes a road, tail and head
  * (unsigned 16 bits), consumption (signed 32 bits). Both little-endian, without a header. All
@@ -10,7 +10,8 @@
  * Asked of the caller: each pointer is to as many elements as the length beside it says, and is not
  * null even where that length is 0; no list that is written overlaps anything else that is lent.
  * Any bytes and any numbers are taken. Nothing is kept, allocated or printed, so that threads may
- * call at the same time. Below the caller's frame sedge_best_route uses 54 KB of stack.
+ * call at the same time. Below the caller's frame sedge_best_route and sedge_set_off use some 54 KB
+ * of stack.
  */
 #ifndef SEDGE_H
 #define SEDGE_H
@@ -47,6 +48,13 @@ sedge_driven sedge_drive(const uint8_t *nodes, size_t nodes_len, const uint8_t *
  * place 12, 13, 15. */
 sedge_profiled sedge_profile(const uint8_t *nodes, size_t nodes_len, const uint8_t *roads, size_t roads_len,
                              int64_t battery, uint64_t source, const uint16_t *route, size_t route_len);
+
+/* Charge to set off with: for each junction the least charge from which some walk to the depot, of
+ * any length, is feasible, and -1 where no charge up to a full battery is enough. The depot has 0.
+ * list needs room for one entry a junction; so many are written, in order, and the others stay.
+ * Refusals in order: 1, 2, 3, 5, 6, the records. */
+sedge_checked sedge_set_off(const uint8_t *nodes, size_t nodes_len, const uint8_t *roads, size_t roads_len,
+                            int64_t battery, uint64_t depot, int32_t *list, size_t list_len);
 
 #ifdef __cplusplus
 }

@@ -6,7 +6,7 @@ use crate::model::{MOST_BATTERY, MOST_CONSUMPTION, MOST_JUNCTIONS, MOST_ROADS, M
 use crate::Files;
 use std::fmt;
 
-/// One input for all four entries.
+/// One input for all five entries. The target is the depot too.
 #[derive(Clone, Debug, PartialEq, Eq)]
 pub struct Case {
     pub seed: u64,
@@ -22,6 +22,22 @@ pub struct Case {
 impl Case {
     pub fn files(&self) -> Files<'_> {
         Files { nodes: &self.nodes, roads: &self.roads }
+    }
+
+    /// The length of the list that is lent for the charges to set off with. They need one entry more than a route, so
+    /// that both lists are too short for the same networks.
+    pub fn room_for_charges(&self) -> usize {
+        self.room + 1
+    }
+
+    /// All junctions of a network with up to 64, and `of_large` drawn ones of a larger network.
+    pub fn some_junctions(&self, of_large: usize) -> Vec<u64> {
+        let junctions = self.nodes.len() / 4;
+        if junctions <= 64 {
+            return (0..junctions as u64).collect();
+        }
+        let mut dice = Dice::new(self.seed);
+        (0..of_large).map(|_| dice.below(junctions) as u64).collect()
     }
 }
 

@@ -1,4 +1,4 @@
-//! The planner for Rust: [`check`], [`best_route`], [`drive`] and [`profile`] over its C boundary.
+//! The planner for Rust: [`check`], [`best_route`], [`drive`], [`profile`] and [`set_off`] over its C boundary.
 //!
 //! Every function takes any bytes and any numbers and ends with its answer or with one numbered
 //! refusal. The modules [`model`] and [`generate`] are what the tests compare it with.
@@ -6,7 +6,7 @@
 pub mod generate;
 pub mod model;
 
-/// What a network check gives back. `number` 0 is success, any other the refusal's number.
+/// What a network check and a list of charges give back. `number` 0 is success, any other the refusal's number.
 #[repr(C)]
 #[derive(Clone, Copy, Debug, PartialEq, Eq)]
 pub struct Checked {
@@ -99,10 +99,21 @@ mod c {
             route: *const u16,
             route_len: usize,
         ) -> Profiled;
+
+        pub fn sedge_set_off(
+            nodes: *const u8,
+            nodes_len: usize,
+            roads: *const u8,
+            roads_len: usize,
+            battery: i64,
+            depot: u64,
+            list: *mut i32,
+            list_len: usize,
+        ) -> Checked;
     }
 }
 
-// Safety of all four calls: a slice's pointer is to as many elements as its length says and is never
+// Safety of all five calls: a slice's pointer is to as many elements as its length says and is never
 // null; the one list that is written is borrowed mutably, so nothing else that is lent overlaps it.
 
 /// Network check: success or the first fault.
@@ -157,6 +168,23 @@ pub fn profile(files: Files, battery: i64, source: u64, route: &[u16]) -> Profil
             source,
             route.as_ptr(),
             route.len(),
+        )
+    }
+}
+
+/// Charge to set off with: the first entries of `list`, one a junction, become the least charges from which some walk
+/// to the depot is feasible, or -1 where none is; the others stay.
+pub fn set_off(files: Files, battery: i64, depot: u64, list: &mut [i32]) -> Checked {
+    unsafe {
+        c::sedge_set_off(
+            files.nodes.as_ptr(),
+            files.nodes.len(),
+            files.roads.as_ptr(),
+            files.roads.len(),
+            battery,
+            depot,
+            list.as_mut_ptr(),
+            list.len(),
         )
     }
 }

@@ -1,8 +1,9 @@
-//! The planner's four answers once more, from document 01 alone and by other means than the library's, so that
-//! the two can be compared.
+//! The planner's five answers once more, from the documents alone and by other means than the library's, so that the
+//! two can be compared.
 //!
 //! Best charges spread over a plain queue until none rises any more; a profile is found by driving the route from
-//! chosen starts. All energy is in mWh and in 64 bits, where no sum of document 01 wraps.
+//! chosen starts, a charge to set off with by asking for best charges from chosen starts. All energy is in mWh and in
+//! 64 bits, where no sum of document 01 wraps.
 
 use crate::{Checked, Driven, Files, Planned, Profiled};
 use std::collections::VecDeque;
@@ -137,12 +138,24 @@ pub fn profile(files: Files, query: Query, route: &[u16]) -> Profiled {
         Ok(consumptions) => Profiled {
             number: 0,
             place: 0,
-            need: least_start(&consumptions, query.battery) as u64,
+            need: need_of(&consumptions, query.battery) as u64,
             sum: consumptions.iter().sum(),
             top: arrival_over(&consumptions, query.battery, query.battery).expect("a full battery drives it") as u64,
         },
         Err(Refusal { number, place }) => Profiled { number, place, need: 0, sum: 0, top: 0 },
     }
+}
+
+/// The charges to set off with from these junctions to the target, or the refusal, where the lent list has `room`
+/// entries.
+pub fn set_off(files: Files, query: Query, room: usize, junctions: &[u64]) -> Result<Vec<i32>, Refusal> {
+    let network = read_network(files)?;
+    test_battery(query)?;
+    refuse_if(!network.has_junction(query.target), 5, 0)?;
+    refuse_if(room < network.potentials.len(), 6, 0)?;
+    test_records(&network)?;
+    let leaving = network.roads_from();
+    Ok(junctions.iter().map(|&source| charge_to_set_off(&leaving, Query { source, ..query })).collect())
 }
 
 /// The network of two files whose lengths are right: refusals 1 and 2.
@@ -165,27 +178,31 @@ pub fn sound_network(files: Files) -> Result<Network, Refusal> {
 
 /// The greatest charge that can be had at each junction.
 pub fn best_arrivals(network: &Network, query: Query) -> Vec<Option<i64>> {
+    arrivals_over(&network.roads_from(), query)
+}
+
+/// The same, where for each junction the roads that leave it are given.
+fn arrivals_over(leaving: &[Vec<Road>], query: Query) -> Vec<Option<i64>> {
     let by_the_rule = |charge, consumption| charge_after(charge, consumption, query.battery);
-    greatest_labels(network, query.source, query.start, by_the_rule)
+    greatest_labels(leaving, query.source, query.start, by_the_rule)
 }
 
 /// The greatest gain, which is the least sum of consumptions, over all walks from the source to each junction,
 /// whatever the battery.
 pub fn greatest_gains(network: &Network, source: u64) -> Vec<Option<i64>> {
-    greatest_labels(network, source, 0, |gain, consumption| Some(gain - consumption))
+    greatest_labels(&network.roads_from(), source, 0, |gain, consumption| Some(gain - consumption))
 }
 
 /// The greatest label of each junction, where `onward` takes a label and a road's consumption to the label at the
 /// head: every rise is passed on until there is none. It ends because no closed trip of a sound network gains energy.
 fn greatest_labels(
-    network: &Network,
+    leaving: &[Vec<Road>],
     source: u64,
     start: i64,
     onward: impl Fn(i64, i64) -> Option<i64>,
 ) -> Vec<Option<i64>> {
-    let leaving = network.roads_from();
-    let mut labels = vec![None; network.potentials.len()];
-    let mut is_waiting = vec![false; network.potentials.len()];
+    let mut labels = vec![None; leaving.len()];
+    let mut is_waiting = vec![false; leaving.len()];
     labels[source as usize] = Some(start);
     let mut waiting = VecDeque::from([source as usize]);
     while let Some(junction) = waiting.pop_front() {
@@ -362,13 +379,28 @@ fn arrival_over(consumptions: &[i64], battery: i64, start: i64) -> Option<i64> {
     Some(charge)
 }
 
-/// The least start from which these consumptions can be driven, by halving, where a full battery can.
-fn least_start(consumptions: &[i64], battery: i64) -> i64 {
+/// The least start from which these consumptions can be driven, where a full battery can.
+fn need_of(consumptions: &[i64], battery: i64) -> i64 {
+    least_start(battery, |start| arrival_over(consumptions, battery, start).is_some())
+}
+
+/// The least start from which some walk from source to target can be driven, or -1 where a full battery is not enough.
+fn charge_to_set_off(leaving: &[Vec<Road>], query: Query) -> i32 {
+    let arrives = |start| arrivals_over(leaving, Query { start, ..query })[query.target as usize].is_some();
+    if arrives(query.battery) {
+        least_start(query.battery, arrives) as i32
+    } else {
+        -1
+    }
+}
+
+/// The least start that arrives, by halving, where a full battery does: more charge never hinders.
+fn least_start(battery: i64, arrives: impl Fn(i64) -> bool) -> i64 {
     let mut too_low = -1;
     let mut enough = battery;
     while enough - too_low > 1 {
         let between = (too_low + enough) / 2;
-        if arrival_over(consumptions, battery, between).is_some() {
+        if arrives(between) {
             enough = between;
         } else {
             too_low = between;

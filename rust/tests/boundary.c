@@ -1,4 +1,4 @@
-/* The four functions of include/sedge.h on hill network H, as a C program calls them. */
+/* The five functions of include/sedge.h on hill network H, as a C program calls them. */
 #include "sedge.h"
 
 #include <inttypes.h>
@@ -11,6 +11,7 @@ static const uint8_t roads[] = {0, 0, 1, 0, 0x2c, 0x01, 0, 0, 1, 0, 2, 0, 0x0c, 
 int main(void)
 {
     uint16_t route[5] = {7, 7, 7, 7, 7};
+    int32_t charges[5] = {7, 7, 7, 7, 7};
     const uint16_t down[1] = {1};
 
     sedge_checked checked = sedge_check(nodes, sizeof nodes, roads, sizeof roads - 1);
@@ -30,5 +31,11 @@ int main(void)
     sedge_profiled profiled = sedge_profile(nodes, sizeof nodes, roads, sizeof roads, 1000, 1, down, 1);
     printf("%" PRIu64 " %" PRIu64 " %" PRIu64 " %" PRId64 " %" PRIu64 "\n", profiled.number, profiled.place,
            profiled.need, profiled.sum, profiled.top);
+
+    sedge_checked listed = sedge_set_off(nodes, sizeof nodes, roads, sizeof roads, 1000, 2, charges, 5);
+    printf("%" PRIu64 " %" PRIu64 ":", listed.number, listed.place);
+    for (int i = 0; i < 5; i++)
+        printf(" %" PRId32, charges[i]);
+    printf("\n");
     return 0;
 }

@@ -6,17 +6,23 @@
 
 use sedge::generate::{self, hill_network, nodes_file, roads_file, Case, Dice, Record};
 use sedge::model::{self, Network, Query, Refusal};
-use sedge::{best_route, check, drive, profile, Checked, Driven, Files, Planned, Profiled};
+use sedge::{best_route, check, drive, profile, set_off, Checked, Driven, Files, Planned, Profiled};
 use std::collections::BTreeMap;
 use std::fmt::Debug;
 
 const SEEDED_NETWORKS: u64 = 48_000;
 const FULL_SIZE_NETWORKS: u64 = 300;
+const FULL_SIZE_LISTS: u64 = 8;
 const TINY_NETWORKS: u64 = 8_000;
 const NO_WORSE_PAIRS: u64 = 6_000;
 
 /// How often each refusal and each pair of refusals must be met.
 const LEAST_TIMES: u64 = 50;
+
+/// Of how many junctions of a large network the charge to set off with is compared: with the model, which takes long
+/// over each, and with best routes.
+const ASKED_OF_THE_MODEL: usize = 1;
+const ASKED_OF_BEST_ROUTES: usize = 16;
 
 #[test]
 fn answers_agree_on_seeded_networks() {
@@ -36,6 +42,15 @@ fn answers_agree_on_seeded_networks() {
         assert!(tally.most_roads_driven >= LEAST_TIMES, "routes of 8,192 roads that can be driven");
         assert!(tally.wide_totals >= LEAST_TIMES, "drives with a total beyond 32 bits");
         assert!(tally.wide_sums >= LEAST_TIMES, "profiles with a sum beyond 32 bits");
+        let charges = &tally.charges;
+        assert!(charges.lists >= 20_000, "lists of charges to set off with");
+        assert!(charges.zero >= 50_000, "charges of 0 at junctions other than the depot");
+        assert!(charges.above_zero >= 100_000, "charges above 0");
+        assert!(charges.full >= 2_000, "charges of a full battery");
+        assert!(charges.none >= 20_000, "charges of -1");
+        assert!(charges.none_though_joined >= 1_000, "charges of -1 where roads lead to the depot");
+        assert!(charges.decided_by_the_rule >= 1_000, "charges that the sums alone do not give");
+        assert!(charges.least_sum_misleads >= 1_000, "charges with which no route of least sum can be driven");
         tally.assert_refusals();
         tally.assert_pairs();
     }
@@ -59,26 +74,51 @@ fn full_size_networks_agree() {
         assert!(2 * tally.two_or_more >= tally.networks, "at least half have a route of two or more roads");
         assert!(tally.spilling >= 50, "best routes that spill");
         assert_eq!(longest, model::MOST_JUNCTIONS as u64 - 1, "a route fills the list");
+        assert!(tally.charges.lists >= 200, "lists of charges to set off with");
+    }
+}
+
+/// Every number of a full-size list, by the best routes from its junction.
+#[test]
+fn full_size_lists_agree_with_best_routes() {
+    let (mut lists, mut above_zero) = (0, 0);
+    over_seeds(FULL_SIZE_LISTS, |seed| {
+        let case = generate::full_size(seed);
+        let mut list = [0; model::MOST_JUNCTIONS];
+        let mut compared = Ok(());
+        if set_off(case.files(), case.query.battery, case.query.target, &mut list).number == 0 {
+            lists += 1;
+            above_zero += list.iter().filter(|charge| **charge > 0).count();
+            compared = compare_with_best_routes(&case, &list, 0..model::MOST_JUNCTIONS as u64);
+        }
+        (compared, case)
+    });
+    println!("full-size lists: {lists}, charges above 0: {above_zero}");
+    if is_whole_run() {
+        assert!(lists >= 5, "lists");
+        assert!(above_zero >= 5_000, "charges above 0");
     }
 }
 
 #[test]
 fn tiny_networks_agree_with_enumeration() {
     let mut tally = Tally::default();
-    let mut questions = 0;
+    let (mut questions, mut charges) = (0, 0);
     over_seeds(TINY_NETWORKS, |seed| {
         let case = generate::tiny(seed);
         let compared = compare(&case, &mut tally).and_then(|planned| {
             questions += compare_with_enumeration(&case)?;
+            charges += compare_charges_with_enumeration(&case)?;
             compare_all_starts(&case)?;
             Ok(planned)
         });
         (compared, case)
     });
-    println!("{tally}questions compared with all walks: {questions}");
+    println!("{tally}questions compared with all walks: {questions}, charges to set off with: {charges}");
     if is_whole_run() {
         assert!(tally.networks >= 5_000, "networks");
         assert!(questions >= 20_000, "questions");
+        assert!(charges >= 20_000, "charges to set off with");
         assert!(tally.two_or_more >= 1_000, "routes of two or more roads");
         assert!(tally.decided_by_the_rule >= 200, "best arrivals that the sums alone do not give");
     }
@@ -203,6 +243,60 @@ fn totals_and_sums_pass_32_bits() {
     assert_eq!(profile(files, full, 0, &too_long), refused_profile(11, 0));
 }
 
+/// By hand: to reach 3 the van needs 900 at 2, so 400 at 1 and 700 at 0 by road 0, where road 2 would ask for 1,000.
+#[test]
+fn charges_to_set_off_with_on_hill() {
+    let hill = Hill::new();
+    assert_eq!(hill.charges(1_000, 3), Ok([700, 400, 900, 0]));
+    assert_eq!(hill.charges(1_000, 2), Ok([100, 0, 0, -1]));
+    assert_eq!(hill.charges(1_000, 1), Ok([300, 0, -1, -1]));
+    assert_eq!(hill.charges(1_000, 0), Ok([0, -1, -1, -1]));
+    assert_eq!(hill.charges(900, 3), Ok([700, 400, 900, 0]));
+    assert_eq!(hill.charges(899, 3), Ok([-1, -1, -1, 0]));
+    assert_eq!(hill.charges(100, 2), Ok([100, 0, 0, -1]));
+    assert_eq!(hill.charges(99, 2), Ok([-1, 0, 0, -1]));
+    assert_eq!(hill.charges(1, 2), Ok([-1, 0, 0, -1]));
+    assert_eq!(hill.charges(200_000_000, 3), Ok([700, 400, 900, 0]));
+
+    for battery in [i64::MIN, -1_000, -1, 0, 200_000_001, (1 << 32) + 1_000, i64::MAX] {
+        assert_eq!(hill.charges(battery, 3), Err((3, 0)), "battery {battery}");
+    }
+    for depot in [4, 5, (1 << 16) + 3, (1 << 32) + 3, (1 << 63) + 3, u64::MAX] {
+        assert_eq!(hill.charges(1_000, depot), Err((5, 0)), "depot {depot}");
+    }
+    let mut list = [7; 6];
+    assert_eq!(set_off(hill.files(), 1_000, 3, &mut list[..3]), Checked { number: 6, place: 0 });
+    assert_eq!(set_off(hill.files(), 1_000, 4, &mut list[..3]), Checked { number: 5, place: 0 });
+    assert_eq!(set_off(hill.files(), 1_000, 3, &mut []), Checked { number: 6, place: 0 });
+    assert_eq!(list, [7; 6]);
+    assert_eq!(set_off(hill.files(), 1_000, 3, &mut list), Checked { number: 0, place: 0 });
+    assert_eq!(list, [700, 400, 900, 0, 7, 7]);
+}
+
+/// By hand: the widest charges, and falls that the battery cannot take in, so that their sums promise too much.
+#[test]
+fn charges_to_set_off_with_at_their_limits() {
+    let road = |tail, head, consumption| Record { tail, head, consumption };
+    let listed = |potentials: &[i32], roads: &[Record], battery, depot| {
+        let mut list = vec![7; potentials.len()];
+        let files = Files { nodes: &nodes_file(potentials), roads: &roads_file(roads) };
+        assert_eq!(set_off(files, battery, depot, &mut list), Checked { number: 0, place: 0 });
+        list
+    };
+    let around = [road(0, 1, 200_000_000), road(1, 2, -200_000_000), road(2, 0, 200_000_000)];
+    let rising = [0, 0, 200_000_000];
+    assert_eq!(listed(&rising, &around, 200_000_000, 0), [0, 0, 200_000_000]);
+    assert_eq!(listed(&rising, &around, 200_000_000, 1), [200_000_000, 0, -1]);
+    assert_eq!(listed(&rising, &around, 199_999_999, 0), [0, -1, -1]);
+
+    let fall_and_climbs = [road(0, 1, -500), road(1, 2, 80), road(2, 3, 80)];
+    assert_eq!(listed(&[0, 500, 500, 500], &fall_and_climbs, 160, 3), [0, 160, 80, 0]);
+    assert_eq!(listed(&[0, 500, 500, 500], &fall_and_climbs, 159, 3), [-1, -1, 80, 0]);
+
+    assert_eq!(listed(&[7], &[], 1, 0), [0]);
+    assert_eq!(listed(&[7], &[road(0, 0, 0)], 1, 0), [0]);
+}
+
 /// Hill network H.
 struct Hill {
     nodes: Vec<u8>,
@@ -227,6 +321,18 @@ impl Hill {
             Ok((planned.arrival, list[..planned.roads as usize].to_vec()))
         } else {
             Err((planned.number, planned.place))
+        }
+    }
+
+    /// The charges to set off with, or number and place of the refusal, which leaves the list as it was.
+    fn charges(&self, battery: i64, depot: u64) -> Result<[i32; 4], (u64, u64)> {
+        let mut list = [7; 4];
+        let checked = set_off(self.files(), battery, depot, &mut list);
+        if checked.number == 0 {
+            Ok(list)
+        } else {
+            assert_eq!(list, [7; 4]);
+            Err((checked.number, checked.place))
         }
     }
 }
@@ -277,7 +383,7 @@ fn same<T: PartialEq + Debug>(what: &str, given: T, expected: T) -> Result<(), S
     }
 }
 
-/// Compares all four answers on one case, counts what it met, and gives the planned route's numbers.
+/// Compares all five answers on one case, counts what it met, and gives the planned route's numbers.
 fn compare(case: &Case, tally: &mut Tally) -> Result<Planned, String> {
     let before = case.clone();
     let files = case.files();
@@ -303,24 +409,56 @@ fn compare(case: &Case, tally: &mut Tally) -> Result<Planned, String> {
         compare_drive_with_profile(case, profiled)?;
     }
 
+    let listed = compare_set_off(case, tally)?;
+    tally.count(case, Entry::SetOff, listed.number, listed.place);
+
     same("lent files and route", case, &before)?;
     tally.networks += 1;
     Ok(planned)
 }
 
-/// What the lent list holds before it is lent.
-fn pattern(place: usize) -> u16 {
-    (place as u16).wrapping_mul(40_503) ^ 0xa5a5
+/// A lent list, with memory on both sides of it that is not lent.
+struct Lent<T> {
+    memory: Vec<T>,
+    room: usize,
+}
+
+impl<T: From<u16> + PartialEq> Lent<T> {
+    const BESIDE: usize = 8;
+
+    fn new(room: usize) -> Lent<T> {
+        Lent { memory: (0..Self::BESIDE + room + Self::BESIDE).map(Self::pattern).collect(), room }
+    }
+
+    /// What the memory holds before the list is lent.
+    fn pattern(place: usize) -> T {
+        T::from((place as u16).wrapping_mul(40_503) ^ 0xa5a5)
+    }
+
+    fn list(&mut self) -> &mut [T] {
+        &mut self.memory[Self::BESIDE..Self::BESIDE + self.room]
+    }
+
+    /// Nothing but the list's first `entries` may have been written.
+    fn test_others(&self, entries: usize) -> Result<(), String> {
+        let written = Self::BESIDE..Self::BESIDE + entries;
+        let is_changed = |place: &usize| !written.contains(place) && self.memory[*place] != Self::pattern(*place);
+        match (0..self.memory.len()).find(is_changed) {
+            Some(place) => {
+                Err(format!("a list of {} was written at {}", self.room, place as i64 - Self::BESIDE as i64))
+            }
+            None => Ok(()),
+        }
+    }
 }
 
 /// The best route's answer, the whole list and what stands on both sides of it.
 fn compare_best_route(case: &Case, tally: &mut Tally) -> Result<Planned, String> {
-    const BESIDE: usize = 8;
-    let mut memory: Vec<u16> = (0..BESIDE + case.room + BESIDE).map(pattern).collect();
+    let mut lent = Lent::new(case.room);
     let Query { battery, start, source, target } = case.query;
-    let lent = &mut memory[BESIDE..BESIDE + case.room];
-    let planned = best_route(case.files(), battery, start, source, target, lent);
+    let planned = best_route(case.files(), battery, start, source, target, lent.list());
     let roads = planned.roads as usize;
+    let list = lent.list();
     match model::best_arrival(case.files(), case.query, case.room) {
         Err(Refusal { number, place }) => {
             let refused = Planned { number, place, roads: 0, arrival: 0, drawn: 0, recovered: 0, spilled: 0 };
@@ -330,18 +468,15 @@ fn compare_best_route(case: &Case, tally: &mut Tally) -> Result<Planned, String>
             let found = [planned.number, planned.place, planned.arrival];
             same("best route's number, place and arrival", found, [0, 0, arrival as u64])?;
             let network = model::sound_network(case.files()).expect("no refusal was expected");
-            if let Some(fault) = model::fault_of_route(&network, case.query, planned, lent) {
-                return Err(format!("best route {planned:?}, {lent:?}: {fault}"));
+            if let Some(fault) = model::fault_of_route(&network, case.query, planned, list) {
+                return Err(format!("best route {planned:?}, {list:?}: {fault}"));
             }
-            compare_route_with_entries(case, planned, &lent[..roads])?;
+            compare_route_with_entries(case, planned, &list[..roads])?;
             tally.count_route(&network, case.query, planned);
         }
     }
-    let written = BESIDE..BESIDE + roads;
-    match (0..memory.len()).find(|place| !written.contains(place) && memory[*place] != pattern(*place)) {
-        Some(place) => Err(format!("a lent list of {} was written at {}", case.room, place as i64 - BESIDE as i64)),
-        None => Ok(planned),
-    }
+    lent.test_others(roads)?;
+    Ok(planned)
 }
 
 /// The route of an answer, given to the library's drive and profile, must give that answer's numbers.
@@ -377,6 +512,48 @@ fn compare_at_start(case: &Case, profiled: Profiled, start: i64) -> Result<(), S
     same("balance", driven.number != 0 || came_in == went, true)
 }
 
+/// The charges to set off with, by the model and by best routes, and what stands on both sides of the list.
+fn compare_set_off(case: &Case, tally: &mut Tally) -> Result<Checked, String> {
+    let mut lent = Lent::new(case.room_for_charges());
+    let listed = set_off(case.files(), case.query.battery, case.query.target, lent.list());
+    let asked = case.some_junctions(ASKED_OF_THE_MODEL);
+    match model::set_off(case.files(), case.query, case.room_for_charges(), &asked) {
+        Err(Refusal { number, place }) => same("set off", listed, Checked { number, place })?,
+        Ok(charges) => {
+            same("set off", listed, Checked { number: 0, place: 0 })?;
+            let list = lent.list();
+            let given: Vec<i32> = asked.iter().map(|junction| list[*junction as usize]).collect();
+            same("charges to set off with", &given, &charges)?;
+            compare_with_best_routes(case, list, case.some_junctions(ASKED_OF_BEST_ROUTES))?;
+            tally.charges.count(case, &asked, &charges);
+        }
+    }
+    lent.test_others(if listed.number == 0 { case.nodes.len() / 4 } else { 0 })?;
+    Ok(listed)
+}
+
+/// From each of these junctions a best route must be refused with 10 exactly below its charge to set off with, or at
+/// every start where that is -1.
+fn compare_with_best_routes(
+    case: &Case,
+    charges: &[i32],
+    junctions: impl IntoIterator<Item = u64>,
+) -> Result<(), String> {
+    let Query { battery, target, .. } = case.query;
+    let mut route = vec![0; case.room];
+    for junction in junctions {
+        let charge = i64::from(charges[junction as usize]);
+        let too_low = if charge == -1 { battery } else { charge - 1 };
+        for (start, number) in [(too_low, 10), (charge, 0)] {
+            if start >= 0 {
+                let planned = best_route(case.files(), battery, start, junction, target, &mut route);
+                same(&format!("best route's number from junction {junction}, start {start}"), planned.number, number)?;
+            }
+        }
+    }
+    Ok(())
+}
+
 /// The library's answer.
 fn planned(case: &Case) -> Planned {
     let Query { battery, start, source, target } = case.query;
@@ -396,6 +573,23 @@ fn compare_with_enumeration(case: &Case) -> Result<u64, String> {
     Ok(tried.len() as u64)
 }
 
+/// Compares the library's charges to set off with, for every junction, with the least start from which any of all
+/// walks, tried one by one, leads to the depot.
+fn compare_charges_with_enumeration(case: &Case) -> Result<u64, String> {
+    let network = model::sound_network(case.files()).expect("a tiny network is sound");
+    let mut charges = vec![0; network.potentials.len()];
+    set_off(case.files(), case.query.battery, case.query.target, &mut charges);
+    for (source, charge) in (0..).zip(&charges) {
+        let leads_there = |start: &i64| {
+            let tried = model::best_by_enumeration(&network, Query { start: *start, source, ..case.query });
+            tried[case.query.target as usize].is_some()
+        };
+        let least = (0..=case.query.battery).find(leads_there).unwrap_or(-1);
+        same(&format!("charge to set off with from junction {source}"), i64::from(*charge), least)?;
+    }
+    Ok(charges.len() as u64)
+}
+
 /// Drive and profile of the given route must agree at every start there is.
 fn compare_all_starts(case: &Case) -> Result<(), String> {
     let profiled = profile(case.files(), case.query.battery, case.query.source, &case.route);
@@ -413,9 +607,10 @@ enum Entry {
     BestRoute,
     Drive,
     Profile,
+    SetOff,
 }
 
-const ENTRIES: [Entry; 4] = [Entry::Check, Entry::BestRoute, Entry::Drive, Entry::Profile];
+const ENTRIES: [Entry; 5] = [Entry::Check, Entry::BestRoute, Entry::Drive, Entry::Profile, Entry::SetOff];
 
 impl Entry {
     /// The refusals that this entry can tell, in its order.
@@ -425,6 +620,7 @@ impl Entry {
             Entry::BestRoute => &[1, 2, 3, 4, 5, 6, 7, 8, 9, 10],
             Entry::Drive => &[1, 2, 3, 4, 5, 11, 7, 8, 9, 12, 13, 14],
             Entry::Profile => &[1, 2, 3, 5, 11, 7, 8, 9, 12, 13, 15],
+            Entry::SetOff => &[1, 2, 3, 5, 6, 7, 8, 9],
         }
     }
 
@@ -439,14 +635,15 @@ impl Entry {
                 &[(1, 2), (2, 3), (3, 4), (4, 5), (5, 11), (11, 7), (11, 8), (11, 9), (7, 12), (8, 12), (9, 12)]
             }
             Entry::Profile => &[(1, 2), (2, 3), (3, 5), (5, 11), (11, 7), (11, 8), (11, 9), (7, 12), (8, 12), (9, 12)],
+            Entry::SetOff => &[(1, 2), (2, 3), (3, 5), (5, 6), (6, 7), (6, 8), (6, 9)],
         };
         let of_neighbours: &[(u64, u64)] = match self {
-            Entry::Check | Entry::BestRoute => &[],
+            Entry::Check | Entry::BestRoute | Entry::SetOff => &[],
             Entry::Drive => &[(12, 13), (13, 12), (12, 14), (14, 12), (13, 14), (14, 13)],
             Entry::Profile => &[(12, 13), (13, 12), (12, 15), (15, 12), (13, 15), (15, 13)],
         };
         let of_one_place: &[(u64, u64)] = match self {
-            Entry::Check | Entry::BestRoute => &[],
+            Entry::Check | Entry::BestRoute | Entry::SetOff => &[],
             Entry::Drive => &[(13, 14)],
             Entry::Profile => &[(13, 15)],
         };
@@ -486,8 +683,63 @@ struct Tally {
     most_roads_driven: u64,
     wide_totals: u64,
     wide_sums: u64,
+    charges: Charges,
     refusals: BTreeMap<(Entry, u64), u64>,
     pairs: BTreeMap<(Entry, Pair), u64>,
+}
+
+/// The charges to set off with that a run has compared with the model. The last three are of one drawn junction a list.
+#[derive(Default)]
+struct Charges {
+    lists: u64,
+    zero: u64,
+    above_zero: u64,
+    full: u64,
+    none: u64,
+    none_though_joined: u64,
+    decided_by_the_rule: u64,
+    least_sum_misleads: u64,
+}
+
+impl Charges {
+    /// Counts the charges from these junctions.
+    fn count(&mut self, case: &Case, junctions: &[u64], charges: &[i32]) {
+        self.lists += 1;
+        for (junction, &charge) in junctions.iter().zip(charges) {
+            self.zero += u64::from(charge == 0 && *junction != case.query.target);
+            self.above_zero += u64::from(charge > 0);
+            self.full += u64::from(i64::from(charge) == case.query.battery);
+            self.none += u64::from(charge == -1);
+        }
+        let drawn = Dice::new(case.seed).between(0, junctions.len() as i64 - 1) as usize;
+        self.count_walk(case, junctions[drawn], i64::from(charges[drawn]));
+    }
+
+    /// The rule decided a charge that is not the least sum over all walks, or not 0 where that is below 0. The least
+    /// sum misleads where no walk of least sum can be driven with the charge, whichever of them were taken.
+    fn count_walk(&mut self, case: &Case, source: u64, charge: i64) {
+        let network = model::sound_network(case.files()).expect("no refusal was expected");
+        let target = case.query.target as usize;
+        let by_sum = model::greatest_gains(&network, source)[target].map(|gain| (-gain).max(0));
+        if charge == -1 {
+            self.none_though_joined += u64::from(by_sum.is_some());
+        } else {
+            let query = Query { start: charge, source, ..case.query };
+            self.decided_by_the_rule += u64::from(by_sum != Some(charge));
+            self.least_sum_misleads += u64::from(model::best_arrival_by_least_sum(&network, query).is_none());
+        }
+    }
+}
+
+impl std::fmt::Display for Charges {
+    fn fmt(&self, out: &mut std::fmt::Formatter) -> std::fmt::Result {
+        writeln!(out, "lists of charges to set off with: {}", self.lists)?;
+        writeln!(out, "charges of 0 beside the depot's: {}, above 0: {}", self.zero, self.above_zero)?;
+        writeln!(out, "charges of a full battery: {}, of -1: {}", self.full, self.none)?;
+        writeln!(out, "charges of -1 though roads lead to the depot: {}", self.none_though_joined)?;
+        writeln!(out, "charges decided by the rule: {}", self.decided_by_the_rule)?;
+        writeln!(out, "charges where the least sum misleads: {}", self.least_sum_misleads)
+    }
 }
 
 impl Tally {
@@ -552,6 +804,7 @@ impl std::fmt::Display for Tally {
         writeln!(out, "best routes where the least sum misleads: {}", self.least_sum_misleads)?;
         writeln!(out, "drives of 8,192 roads: {}", self.most_roads_driven)?;
         writeln!(out, "beyond 32 bits: {} drives, {} profiles", self.wide_totals, self.wide_sums)?;
+        write!(out, "{}", self.charges)?;
         for ((entry, number), times) in &self.refusals {
             writeln!(out, "{entry:?} refuses with {number}: {times}")?;
         }
@@ -581,6 +834,7 @@ fn input_has(case: &Case, entry: Entry, fault: u64) -> bool {
         3 => !(1..=200_000_000).contains(&battery),
         4 => start < 0 || start > battery,
         5 if entry == Entry::BestRoute => source >= junctions || target >= junctions,
+        5 if entry == Entry::SetOff => target >= junctions,
         5 => source >= junctions,
         6 => (case.room as u64) < junctions - 1,
         10 => !leads_to_target(case),

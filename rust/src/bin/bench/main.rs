@@ -1,6 +1,7 @@
 //! The benchmark of the planner; the script `bench` at the root runs it and says what it needs.
 
 mod document;
+mod lists;
 mod networks;
 mod plain;
 mod programs;
@@ -19,7 +20,12 @@ fn main() -> Result<(), String> {
     let words: Vec<&str> = words.iter().map(String::as_str).collect();
     match words[..] {
         ["names"] => cases().iter().for_each(|case| println!("{}", case.name)),
-        ["queries"] => queries::compare(&cases())?,
+        ["queries"] => {
+            let cases = cases();
+            queries::compare(&cases)?;
+            println!();
+            lists::compare(&cases)?
+        }
         ["count", name, implementation, times] => {
             let times = times.parse().map_err(|_| format!("not a number: {times}"))?;
             queries::count(&found(name)?, implementation, times)?

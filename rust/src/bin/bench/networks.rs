@@ -19,13 +19,15 @@ pub struct Case {
     pub drawings: Vec<Question>,
 }
 
-/// A best-route question about a network, and the number of its answer: 0, or 10 where there is no route.
+/// A best-route question about a network, and the number of its answer: 0, or 10 where there is no route. The depot,
+/// for charges to set off with, is the target of the question with a route.
 pub struct Question {
     network: Network,
     pub battery: i64,
     pub start: i64,
     pub source: u64,
     pub target: u64,
+    pub depot: u64,
     pub number: u64,
 }
 
@@ -95,6 +97,11 @@ impl Question {
     pub fn list(&self) -> Vec<u16> {
         vec![0; self.network.potentials.len()]
     }
+
+    /// A list with room for the charges to set off with.
+    pub fn charges(&self) -> Vec<i32> {
+        vec![0; self.network.potentials.len()]
+    }
 }
 
 impl Network {
@@ -114,12 +121,14 @@ impl Network {
 
     /// The question with a route and the one without.
     fn asked(self, battery: i64, with: Ask, without: Ask) -> [Question; 2] {
+        let depot = with.target as u64;
         let question = |ask: Ask, number| Question {
             network: self.clone(),
             battery,
             start: ask.start,
             source: ask.source as u64,
             target: ask.target as u64,
+            depot,
             number,
         };
         [question(with, 0), question(without, 10)]

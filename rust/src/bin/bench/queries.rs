@@ -10,7 +10,7 @@ use std::time::{Duration, Instant};
 
 /// How often each drawing of a network is timed by each implementation. The first in turn has to fetch the files into
 /// the nearest cache, so each is first equally often.
-const ROUNDS: usize = 6 * IMPLEMENTATIONS.len();
+pub const ROUNDS: usize = 6 * IMPLEMENTATIONS.len();
 
 /// How many queries of a network below full size are timed together.
 const BATCH: u32 = 64;
@@ -32,7 +32,7 @@ const IMPLEMENTATIONS: [(&str, BestRoute); 4] = [
 
 /// The greatest ratio of medians and of leasts over the full-size networks.
 #[derive(Default)]
-struct Worst {
+pub struct Worst {
     median: Greatest,
     least: Greatest,
 }
@@ -89,7 +89,7 @@ pub fn count(case: &Case, implementation: &str, times: usize) -> Result<(), Stri
 }
 
 /// Runs one query, of which the compiler may foresee nothing.
-fn ask(question: &Question, best_route: BestRoute, list: &mut [u16]) -> Planned {
+pub fn ask(question: &Question, best_route: BestRoute, list: &mut [u16]) -> Planned {
     let question = black_box(question);
     black_box(best_route(question.files(), question.battery, question.start, question.source, question.target, list))
 }
@@ -117,37 +117,44 @@ fn agree(question: &Question) -> Result<(), String> {
 
 /// The times of the case in each implementation.
 fn time(case: &Case) -> [Times; 4] {
-    let batch = if case.is_full_size() { 1 } else { BATCH };
     let mut list = case.drawings[0].list();
-    let mut taken = [(); 4].map(|_| vec![Vec::new(); case.drawings.len()]);
+    time_in_turn(case, |which, question| {
+        ask(question, IMPLEMENTATIONS[which].1, &mut list);
+    })
+}
+
+/// The times of each of `N` works, named by number, on the questions of the case.
+pub fn time_in_turn<const N: usize>(case: &Case, mut work: impl FnMut(usize, &Question)) -> [Times; N] {
+    let batch = if case.is_full_size() { 1 } else { BATCH };
+    let mut taken = [(); N].map(|_| vec![Vec::new(); case.drawings.len()]);
     for round in 0..ROUNDS {
         for (i, question) in case.drawings.iter().enumerate() {
-            for turn in 0..IMPLEMENTATIONS.len() {
-                let which = (round + turn) % IMPLEMENTATIONS.len();
-                taken[which][i].push(time_once(question, IMPLEMENTATIONS[which].1, batch, &mut list));
+            for turn in 0..N {
+                let which = (round + turn) % N;
+                taken[which][i].push(time_once(batch, || work(which, question)));
             }
         }
     }
     taken.map(|taken| Times::of(&taken))
 }
 
-/// The time of one query, as the mean of so many asked together.
-fn time_once(question: &Question, best_route: BestRoute, batch: u32, list: &mut [u16]) -> Duration {
+/// The time of one piece of work, as the mean of so many done together.
+fn time_once(batch: u32, mut work: impl FnMut()) -> Duration {
     let begun = Instant::now();
     for _ in 0..batch {
-        ask(question, best_route, list);
+        work();
     }
     begun.elapsed() / batch
 }
 
 impl Worst {
-    fn take(&mut self, ratios: &Ratios, network: &str) {
+    pub fn take(&mut self, ratios: &Ratios, network: &str) {
         self.median.take(ratios.median, network);
         self.least.take(ratios.least, network);
     }
 
     /// Whether the medians keep to the mark, in a word.
-    fn judged(&self, mark: f64) -> &'static str {
+    pub fn judged(&self, mark: f64) -> &'static str {
         if self.median.ratio <= mark {
             "met"
         } else {

@@ -3,7 +3,7 @@
 
 use crate::networks::Question;
 
-/// Prints the bytes of stack for each of the four entries.
+/// Prints the bytes of stack for each of the five entries.
 #[cfg(target_arch = "x86_64")]
 pub fn print(question: &Question) {
     let mut list = question.list();
@@ -11,6 +11,7 @@ pub fn print(question: &Question) {
     let (source, target) = (question.source, question.target);
     let roads = sedge::best_route(files, battery, start, source, target, &mut list).roads as usize;
     let route = list[..roads].to_vec();
+    let mut charges = question.charges();
     println!("Stack below the caller's frame in bytes, by a painted stack; an empty call for comparison.");
     println!();
     let line = |entry: &str, bytes: usize| println!("{entry:18} {bytes:>7}");
@@ -19,6 +20,7 @@ pub fn print(question: &Question) {
     line("sedge_best_route", painted::used(|| sedge::best_route(files, battery, start, source, target, &mut list)));
     line("sedge_drive", painted::used(|| sedge::drive(files, battery, start, source, &route)));
     line("sedge_profile", painted::used(|| sedge::profile(files, battery, source, &route)));
+    line("sedge_set_off", painted::used(|| sedge::set_off(files, battery, question.depot, &mut charges)));
 }
 
 /// Says that the stack is not measured here.
