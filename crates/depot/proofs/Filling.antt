@@ -18,7 +18,8 @@ use Rattle.network.specs.Files.{junctions, mostJunctions, junctionFile, roadFil
 use Rattle.network.specs.SetOff.{SetOff}
 use Rattle.network.specs.declared.Checked.the-variants.{Passed}
 use Rattle.network.specs.declared.Refusal.the-variants.{JunctionFile, RoadFile, Battery, NoJunction, ShortList}
-use Rattle.search.proofs.Backward.{backward, best-le, set-off}
+use Rattle.search.proofs.Backward.{backward, set-off}
+use Rattle.search.proofs.Laws.{best-le}
 use Rattle.search.specs.Found.{Labels}
 use Rattle.search.specs.Reading.{chargeOf, net}
 use Rattle.search.specs.Steps.{LabelAsks}

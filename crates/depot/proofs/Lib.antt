@@ -1,3 +1,3 @@
-mod Filling
+pub mod Filling
 pub mod OneOutcome
 pub mod TenBelow

@@ -21,7 +21,7 @@ use Rattle.search.specs.Reading.{stepForward, stepBackward, chargeOf, ne
 use Rattle.search.specs.declared.Reading.{Reading}
 use Rattle.search.specs.declared.Sense.the-variants.{Forward, Backward}
 use Rattle.search.proofs.Forward.{forward, label, label-after}
-use Rattle.search.proofs.Laws.{step-le}
+use Rattle.search.proofs.Laws.{step-le, after-le}
 use Rattle.search.proofs.StepBackward.{backward-capped}
 use Rattle.search.proofs.StepForward.{forward-capped}
 
@@ -63,18 +63,6 @@ steps-meet M r (suc f) (suc g) hf hg =
         }
 
 -- ---- a walk
-
-after-le : (rd : Reading) (rs ks : List ℕ) (l : ℕ) → l ≤ rd .battery + 1 → after (net rd rs) ks l ≤ rd .battery + 1
-unfolding net
-after-le rd rs [] l h = h
-after-le rd rs (k ∷ ks) l h = after-le rd rs ks _ (step-le (rd .sense) (rd .battery) (roadOf rs k) l)
-
--- a best label is no greater
-pub best-le : (rd : Reading) (rs : List ℕ) (s l v x : ℕ) → l ≤ rd .battery + 1 → Best (net rd rs) s l v x → x ≤ rd .battery + 1
-best-le rd rs s l v zero h b = omega arith
-best-le rd rs s l v (suc x) h b =
-    let r = b .reached (omega arith) in
-    omega (arith, r .brings, after-le rd rs (r .by) l h)
 
 -- the label after the roads ks, read from the last to the first
 back : ℕ → List ℕ → List ℕ → ℕ → ℕ

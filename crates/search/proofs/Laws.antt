@@ -3,15 +3,15 @@
 -- search's invariant looks at the battery rule. Assumes nothing.
 use mathlib.Core.Path.{_≡_, refl, ap, _∙_}
 use mathlib.Core.Bool.{true}
-use mathlib.Core.List.{List}
-use Prim.Native.Nat.{ℕ, _+_, _-_, _≤_, _<_}
+use mathlib.Core.List.{List, [], _∷_}
+use Prim.Native.Nat.{ℕ, zero, suc, _+_, _-_, _≤_, _<_}
 use native.Mathlib.Omega.{arith}
 use Rattle.numbers.specs.Signed.{draw, gain}
 use Rattle.battery.specs.declared.Road.{Road}
 use Rattle.network.proofs.Closed.{checked-passing}
 use Rattle.network.proofs.Records.{Sound, all-sound}
 use Rattle.network.specs.Files.{junctions, roadCount, roadOf, potential, passes, Passing}
-use Rattle.walks.specs.Label.{Laws}
+use Rattle.walks.specs.Label.{Laws, after, Best}
 use Rattle.search.specs.Reading.{entered, left, stepOf, psiOf, psi, net}
 use Rattle.search.specs.Steps.{Readable}
 use Rattle.search.specs.declared.Reading.{Reading}
@@ -76,6 +76,18 @@ laws-of rd ns rs a =
       no-gain =
           λ k l h. capped-gain (step-capped (rd .sense) (rd .battery) (roadOf rs k)) l _ _ (falls (rd .sense) ns (roadOf rs k) (a .pass k h));
     }
+
+-- no label is greater than a full battery
+pub after-le : (rd : Reading) (rs ks : List ℕ) (l : ℕ) → l ≤ rd .battery + 1 → after (net rd rs) ks l ≤ rd .battery + 1
+unfolding net
+after-le rd rs [] l h = h
+after-le rd rs (k ∷ ks) l h = after-le rd rs ks _ (step-le (rd .sense) (rd .battery) (roadOf rs k) l)
+
+pub best-le : (rd : Reading) (rs : List ℕ) (s l v x : ℕ) → l ≤ rd .battery + 1 → Best (net rd rs) s l v x → x ≤ rd .battery + 1
+best-le rd rs s l v zero h b = omega arith
+best-le rd rs s l v (suc x) h b =
+    let r = b .reached (omega arith) in
+    omega (arith, r .brings, after-le rd rs (r .by) l h)
 
 -- ---- the roads of checked files
 

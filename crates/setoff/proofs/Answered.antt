@@ -6,18 +6,16 @@ use native.Mathlib.Omega.{arith}
 use borrow.Author.Tests.{ne-eqb}
 use lib.IntN.{ℤ}
 use lib.ListN.{length, take}
-use Rattle.network.proofs.Faults.{number-pos, first-passed, unless-passed}
-use Rattle.network.specs.Check.{unless}
-use Rattle.network.specs.Files.{junctions, mostJunctions, junctionFile}
+use Rattle.network.proofs.Faults.{number-pos}
+use Rattle.network.specs.Files.{junctions, mostJunctions}
 use Rattle.network.specs.Refusals.{numberOf, placeOf}
 use Rattle.network.specs.declared.Checked.{Checked}
 use Rattle.network.specs.declared.Checked.the-variants as checked
 use Rattle.network.specs.declared.Refusal.{Refusal}
-use Rattle.network.specs.declared.Refusal.the-variants.{JunctionFile}
-use Rattle.planner.proofs.Cleared.{few-junctions}
 use Rattle.planner.specs.Given.{checkNumbers}
 use Rattle.planner.specs.declared.CheckNumbers.{CheckNumbers}
-use Rattle.depot.specs.Promise.{SetsOff, refused, known, setOffFault}
+use Rattle.depot.proofs.Filling.{cleared}
+use Rattle.depot.specs.Promise.{SetsOff, refused, known}
 use Rattle.depot.specs.declared.SetOffQuestion.{SetOffQuestion}
 use Rattle.text.specs.Answer.{setOffText, signedLines, refusedText, noFile}
 use Rattle.text.specs.Line.{ReadsDepot, depot, bad}
@@ -34,11 +32,8 @@ no-file (depot m d l) = WithoutFiles.none m d l
 -- ---- the numbers: there is an entry for each junction
 few : {ns rs : List ℕ} {q : SetOffQuestion} {list xs : List ℤ} {a : CheckNumbers} → SetsOff ns rs q list a xs → a .number ≡ 0
     → junctions ns ≤ mostJunctions
-unfolding setOffFault
 few (refused r f) z = let p = number-pos r in absurd (omega arith)
-few {ns} (known f n) z =
-    let first = unless (junctionFile ns) JunctionFile in
-    few-junctions ns (unless-passed (junctionFile ns) JunctionFile (first-passed first _ f .0))
+few {ns} {rs} {q} {list} (known f n) z = cleared ns rs q list f .asks .few
 
 pub numbers-fit : {ns rs : List ℕ} {q : SetOffQuestion} {list xs : List ℤ} {answer : Checked}
     → SetsOff ns rs q list (checkNumbers answer) xs → answer ≡ checked.Passed → junctions ns ≤ mostJunctions
