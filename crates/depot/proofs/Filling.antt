@@ -1,4 +1,5 @@
--- The loop that writes the charges, and what the labels of the search tell. Assumes nothing.
+-- The loop that writes the charges, what the labels of the search tell, and what a question that passes the tests has.
+-- Assumes nothing.
 use mathlib.Core.Path.{_≡_, refl, sym, ap, _∙_, subst}
 use mathlib.Core.Bool.{true}
 use mathlib.Core.List.{List}
@@ -13,6 +14,7 @@ use Rattle.numbers.specs.Signed.{draw}
 use Rattle.frontier.proofs.Empty.{zeros}
 use Rattle.frontier.specs.Frontier.{entry}
 use Rattle.network.proofs.Faults.{each-passed, unless-passed}
+use Rattle.network.proofs.Records.{few-junctions, few-roads}
 use Rattle.network.specs.Check.{firstOf}
 use Rattle.network.specs.Files.{junctions, mostJunctions, junctionFile, roadFile, isJunction}
 use Rattle.network.specs.SetOff.{SetOff}
@@ -23,7 +25,7 @@ use Rattle.search.proofs.Laws.{best-le}
 use Rattle.search.specs.Found.{Labels}
 use Rattle.search.specs.Reading.{chargeOf, net}
 use Rattle.search.specs.Steps.{LabelAsks}
-use Rattle.planner.proofs.Cleared.{few-junctions, few-roads, battery-whole}
+use Rattle.planner.proofs.Cleared.{battery-whole}
 use Rattle.planner.specs.Order.{isBattery}
 use Rattle.depot.specs.Filling.{beforeSetOff, FillAsks, WriteAsks, Written}
 use Rattle.depot.specs.Promise.{numberAt, hasEntries, setOffFault, Numbered}

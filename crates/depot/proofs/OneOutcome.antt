@@ -1,19 +1,16 @@
 -- The promise leaves one possible outcome, and the depot's number is 0. Assumes nothing.
 use mathlib.Core.Path.{_≡_, refl, ap, _∙_, sym}
-use mathlib.Core.List.{List, []}
+use mathlib.Core.List.{List}
 use Prim.Native.Nat.{ℕ, _<_}
 use native.Mathlib.Decide.{decLt}
 use native.Mathlib.Omega.{arith}
 use lib.IntN.{ℤ, pos}
 use lib.Seq.{ext-getD}
-use Rattle.battery.specs.Drive.{fresh, driveAll}
 use Rattle.network.proofs.Faults.{number-pos}
-use Rattle.network.proofs.SetOff.{one-number}
+use Rattle.network.proofs.SetOff.{one-number, depot-number}
 use Rattle.network.specs.Files.{junctions}
-use Rattle.network.specs.SetOff.{Enough, least}
 use Rattle.network.specs.declared.Checked.the-variants.{Refused}
 use Rattle.network.specs.declared.Refusal.{Refusal}
-use Rattle.walks.specs.Walk.{stay}
 use Rattle.planner.proofs.OneOutcome.{same-refusal, not-both}
 use Rattle.planner.specs.Given.{checkNumbers}
 use Rattle.depot.specs.Claims.{OneSetOff, DepotHasZero}
@@ -35,14 +32,8 @@ one-set-off ns rs q list a b xs ys (refused r e) (known f n) = not-both f e
 one-set-off ns rs q list a b xs ys (known e n) (refused s f) = not-both e f
 one-set-off ns rs q list a b xs ys (known e n) (known f m) = (refl, same-numbers n m)
 
--- from 0 the walk of no roads is feasible
-nothing-needed : (M : ℕ) (rs : List ℕ) (depot : ℕ) → Enough M rs depot depot 0
-unfolding driveAll
-nothing-needed M rs depot =
-    record { to-full = omega arith; by = []; walk = stay; feasible = record { van = fresh M 0; drives = refl } }
-
 pub depot-has-zero : DepotHasZero
 depot-has-zero ns rs q list a xs (refused r e) z = let p = number-pos r in absurd (omega arith)
 depot-has-zero ns rs q list a xs (known e n) z =
     one-number _ rs (q .depot) (q .depot) _ _ (n .numbers (q .depot) (cleared ns rs q list e .asks .depot-in))
-    (least 0 (nothing-needed _ rs (q .depot)) (λ b f. omega arith))
+    (depot-number _ rs (q .depot))

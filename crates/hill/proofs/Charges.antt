@@ -13,6 +13,7 @@ use Rattle.battery.specs.declared.Passage.{Passage}
 use Rattle.battery.specs.declared.Passage.the-variants.{Passable, Impassable}
 use Rattle.battery.specs.declared.Van.{Van}
 use Rattle.battery.specs.declared.Drove.the-variants.{On, TooLow}
+use Rattle.network.proofs.SetOff.{depot-number}
 use Rattle.network.specs.SetOff.{SetOff, least, never}
 use Rattle.network.specs.Walks.{Walk, roadsOf, Feasible}
 use Rattle.walks.specs.Walk.{stay, go}
@@ -44,15 +45,6 @@ least-of : {m v d b : ℕ} {w : Van} (best : List ℕ) → Walk roads v best d �
 least-of {m} {b} {w} best walk e h n =
     least b (record { to-full = h; by = best; walk = walk; feasible = record { van = w; drives = e } })
     (λ c f. needs-of m b c (f .by) _ refl (n (f .by) (way (f .walk))) (f .to-full) (f .feasible))
-
--- at the depot itself no roads are driven
-at-depot : (m d : ℕ) → SetOff m roads d d (pos 0)
-unfolding driveAll
-at-depot m d = least-of [] stay refl (omega arith) (λ ks w. nothing (profileOf m (roadsOf roads ks)))
-  where
-    nothing : (x : Passage) → Needs 0 x
-    nothing (Passable p) = omega arith
-    nothing Impassable = tt
 
 -- no walk from v to d can be driven with any charge
 never-of : {m v d : ℕ} → ((ks : List ℕ) → Way v ks d → profileOf m (roadsOf roads ks) ≡ Impassable) → SetOff m roads v d (negsuc 0)
@@ -109,18 +101,18 @@ charges =
             at-0 = least-of _ hill-3 refl (omega arith) (to-3 _ (omega arith) (omega arith));
             at-1 = least-of _ walk-1 refl (omega arith) (from-1 _ (omega arith));
             at-2 = least-of _ walk-2 refl (omega arith) (from-2 _ (omega arith));
-            at-3 = at-depot 1000 3;
+            at-3 = depot-number 1000 roads 3;
           };
       to-2 =
           record {
             at-0 = least-of _ flat-2 refl (omega arith) (to-2 _ (omega arith) (omega arith));
             at-1 = least-of _ walk-1-to-2 refl (omega arith) (from-1-to-2 _ (omega arith));
-            at-2 = at-depot 1000 2;
+            at-2 = depot-number 1000 roads 2;
             at-3 = no-road-back (omega arith);
           };
       to-0 =
           record {
-            at-0 = at-depot 1000 0;
+            at-0 = depot-number 1000 roads 0;
             at-1 = no-road-back (omega arith);
             at-2 = no-road-back (omega arith);
             at-3 = no-road-back (omega arith);
@@ -130,13 +122,13 @@ charges =
             at-0 = least-of _ hill-3 refl (omega arith) (to-3 _ (omega arith) tt);
             at-1 = least-of _ walk-1 refl (omega arith) (from-1 _ (omega arith));
             at-2 = least-of _ walk-2 refl (omega arith) (from-2 _ (omega arith));
-            at-3 = at-depot 900 3;
+            at-3 = depot-number 900 roads 3;
           };
       at-899 =
           record {
             at-0 = never-of (to-3 _ refl refl);
             at-1 = never-of (from-1 _ refl);
             at-2 = never-of (from-2 _ refl);
-            at-3 = at-depot 899 3;
+            at-3 = depot-number 899 roads 3;
           };
     }

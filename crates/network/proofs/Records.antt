@@ -1,20 +1,34 @@
--- What the check of the records tells where all pass. Assumes nothing.
+-- What the tests of the files and of their records tell where all pass. Assumes nothing.
 use mathlib.Core.Path.{_≡_}
 use mathlib.Core.Bool.{true}
 use mathlib.Core.List.{List}
-use Prim.Native.Nat.{ℕ, _-_, _≤_, _<_}
+use Prim.Native.Nat.{ℕ, _-_, _%_, _≤_, _<_}
 use native.Mathlib.Omega.{arith}
 use borrow.Author.Tests.{ltb-true, leb-true}
+use lib.Dec.{ltb, leb, eqb}
 use lib.IntN.{ℤ, pos, negsuc, negℤ}
+use lib.ListN.{length}
 use lib.Signed.{leZ}
 use Rattle.numbers.specs.Signed.{draw, gain}
 use Rattle.battery.specs.Ready.{Ranged}
 use Rattle.battery.specs.Rule.{mostConsumption}
 use Rattle.battery.specs.declared.Road.{Road}
 use Rattle.network.specs.Check.{recordFault, recordsFault}
-use Rattle.network.specs.Files.{junctions, roadCount, roadOf, potential, inRange, passes}
+use Rattle.network.specs.Files.{junctionBytes, roadBytes, mostJunctions, mostRoads, junctions, roadCount, junctionFile, roadFile, roadOf, potential, inRange, passes}
 use Rattle.network.specs.declared.Checked.the-variants.{Passed}
 use Rattle.network.proofs.Faults.{first-passed, unless-passed, both-true, all-passed}
+
+-- ---- 1, 2: how many records there are
+
+pub few-junctions : (ns : List ℕ) → junctionFile ns ≡ true → junctions ns ≤ mostJunctions
+few-junctions ns e =
+    let n = both-true (ltb 0 (length ns)) _ e .1 in
+    leb-true _ _ (both-true (eqb (length ns % junctionBytes) 0) (leb (junctions ns) mostJunctions) n .1)
+
+pub few-roads : (rs : List ℕ) → roadFile rs ≡ true → roadCount rs ≤ mostRoads
+few-roads rs e = leb-true _ _ (both-true (eqb (length rs % roadBytes) 0) (leb (roadCount rs) mostRoads) e .1)
+
+-- ---- 7, 8, 9
 
 -- what a record that passes has
 pub record Sound (ns : List ℕ) (r : Road) : Type 0 where

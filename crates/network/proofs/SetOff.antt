@@ -1,10 +1,14 @@
--- The charge to set off with: one number a junction, and every charge from it on is enough. Assumes nothing.
+-- The charge to set off with: one number a junction, every charge from it on is enough, and the depot has 0. Assumes nothing.
 use mathlib.Core.Path.{_≡_, refl, ap}
+use mathlib.Core.List.{List, []}
+use Prim.Native.Nat.{ℕ}
 use native.Mathlib.Omega.{arith}
 use lib.IntN.{pos}
 use Rattle.battery.proofs.Monotone.{fixed-route}
+use Rattle.battery.specs.Drive.{fresh, driveAll}
+use Rattle.walks.specs.Walk.{stay}
 use Rattle.network.specs.Claims.{OneNumber, MoreIsEnough}
-use Rattle.network.specs.SetOff.{least, never}
+use Rattle.network.specs.SetOff.{SetOff, least, never}
 use Rattle.network.specs.Walks.{roadsOf}
 
 pub one-number : OneNumber
@@ -22,3 +26,10 @@ more-is-enough M rs v depot b c e h full =
       walk = e .walk;
       feasible = record { van = f .second; drives = f .drives };
     }
+
+-- from 0 the walk of no roads is feasible
+pub depot-number : (M : ℕ) (rs : List ℕ) (depot : ℕ) → SetOff M rs depot depot (pos 0)
+unfolding driveAll
+depot-number M rs depot =
+    least 0 (record { to-full = omega arith; by = []; walk = stay; feasible = record { van = fresh M 0; drives = refl } })
+    (λ b e. omega arith)

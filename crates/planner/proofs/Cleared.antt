@@ -2,10 +2,10 @@
 use mathlib.Core.Path.{_≡_, refl, sym, ap, _∙_, subst}
 use mathlib.Core.Bool.{true, _&&_}
 use mathlib.Core.List.{List}
-use Prim.Native.Nat.{ℕ, _+_, _-_, _%_, _≤_, _<_, _^_}
+use Prim.Native.Nat.{ℕ, _+_, _-_, _≤_, _<_, _^_}
 use native.Mathlib.Omega.{arith}
 use borrow.Author.Tests.{leb-true, le-leb, ltb-true}
-use lib.Dec.{ltb, leb, eqb}
+use lib.Dec.{leb}
 use lib.IntN.{ℤ, pos, negsuc}
 use lib.ListN.{length}
 use lib.Signed.{leZ, mag}
@@ -16,9 +16,9 @@ use Rattle.numbers.specs.Signed.{draw}
 use Rattle.battery.specs.Drive.{fresh}
 use Rattle.battery.specs.Rule.{mostBattery}
 use Rattle.network.proofs.Faults.{each-passed, unless-passed, both-true}
-use Rattle.network.proofs.Records.{all-ranged}
+use Rattle.network.proofs.Records.{few-junctions, few-roads, all-ranged}
 use Rattle.network.specs.Check.{firstOf, recordsFault}
-use Rattle.network.specs.Files.{junctionBytes, roadBytes, junctions, roadCount, mostJunctions, mostRoads, junctionFile, roadFile, isJunction}
+use Rattle.network.specs.Files.{junctions, roadCount, mostJunctions, mostRoads, junctionFile, roadFile, isJunction}
 use Rattle.network.specs.declared.Checked.the-variants.{Passed}
 use Rattle.network.specs.declared.Refusal.the-variants.{JunctionFile, RoadFile, Battery, Start, NoJunction, ShortList, LongRoute}
 use Rattle.routes.specs.Places.{mostEntries}
@@ -28,15 +28,6 @@ use Rattle.planner.specs.Order.{isBattery, isStart, hasRoom, planFault}
 use Rattle.planner.specs.declared.PlanQuestion.{PlanQuestion}
 use Rattle.planner.specs.declared.DriveQuestion.{DriveQuestion}
 use Rattle.planner.specs.declared.ProfileQuestion.{ProfileQuestion}
-
--- 1, 2
-pub few-junctions : (ns : List ℕ) → junctionFile ns ≡ true → junctions ns ≤ mostJunctions
-few-junctions ns e =
-    let n = both-true (ltb 0 (length ns)) _ e .1 in
-    leb-true _ _ (both-true (eqb (length ns % junctionBytes) 0) (leb (junctions ns) mostJunctions) n .1)
-
-pub few-roads : (rs : List ℕ) → roadFile rs ≡ true → roadCount rs ≤ mostRoads
-few-roads rs e = leb-true _ _ (both-true (eqb (length rs % roadBytes) 0) (leb (roadCount rs) mostRoads) e .1)
 
 -- a natural and its bits, which `whole` is asked for
 pub whole-bits : {z : ℤ} → mag z < 2 ^ 63 → Whole z

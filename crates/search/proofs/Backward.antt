@@ -30,11 +30,11 @@ backward M = record { sense = Backward; battery = M }
 
 -- ---- one road
 
-pub record Meets (M f g : ℕ) : Type 0 where
+record Meets (M f g : ℕ) : Type 0 where
   pub above : M + 1 < f + g
 
 -- each way: they meet at the head, they meet at the tail
-pub record SameMeeting (M f g f' g' : ℕ) : Type 0 where
+record SameMeeting (M f g f' g' : ℕ) : Type 0 where
   pub to-tail : Meets M f' g → Meets M f g'
   pub to-head : Meets M f g' → Meets M f' g
 

@@ -23,7 +23,7 @@ use Rattle.search.proofs.StepBackward.{backward-capped, potential-ge, b
 
 -- ---- every sense
 
-abbrev pub capOf : Sense → ℕ → Road → ℕ
+abbrev capOf : Sense → ℕ → Road → ℕ
 capOf Forward M r = M + 1
 capOf Backward M r = M + 1 - draw (r .consumption)
 
