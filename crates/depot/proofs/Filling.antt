@@ -3,7 +3,7 @@
 use mathlib.Core.Path.{_≡_, refl, sym, ap, _∙_, subst}
 use mathlib.Core.Bool.{true}
 use mathlib.Core.List.{List}
-use Prim.Native.Nat.{ℕ, zero, suc, _+_, _-_, _<_}
+use Prim.Native.Nat.{ℕ, _+_, _-_, _<_}
 use native.Mathlib.Decide.{ℕ-discrete}
 use native.Mathlib.Omega.{arith}
 use borrow.Author.Tests.{leb-true, ltb-true}
@@ -20,20 +20,16 @@ use Rattle.network.specs.Files.{junctions, mostJunctions, junctionFile, roadFil
 use Rattle.network.specs.SetOff.{SetOff}
 use Rattle.network.specs.declared.Checked.the-variants.{Passed}
 use Rattle.network.specs.declared.Refusal.the-variants.{JunctionFile, RoadFile, Battery, NoJunction, ShortList}
-use Rattle.search.proofs.Backward.{backward, set-off}
+use Rattle.search.proofs.Backward.{set-off}
 use Rattle.search.proofs.Laws.{best-le}
 use Rattle.search.specs.Found.{Labels}
-use Rattle.search.specs.Reading.{chargeOf, net}
-use Rattle.search.specs.Steps.{LabelAsks}
+use Rattle.search.specs.Reading.{backward, chargeOf, net}
+use Rattle.search.specs.Searches.{LabelAsks}
 use Rattle.planner.proofs.Cleared.{battery-whole}
 use Rattle.planner.specs.Order.{isBattery}
 use Rattle.depot.specs.Filling.{beforeSetOff, FillAsks, WriteAsks, Written}
 use Rattle.depot.specs.Promise.{numberAt, hasEntries, setOffFault, Numbered}
 use Rattle.depot.specs.declared.SetOffQuestion.{SetOffQuestion}
-
-pub charge-some : (M l : ℕ) → 0 < l → chargeOf M l ≡ pos (M + 1 - l)
-charge-some M zero h = absurd (omega arith)
-charge-some M (suc x) h = let e : M - x ≡ M + 1 - suc x = omega arith in ap pos e
 
 -- no label has been taken
 pub none-written : (M : ℕ) (labels : List ℕ) (list : List ℤ) → Written M labels 0 list list
@@ -61,10 +57,13 @@ module _ (ns rs : List ℕ) (M depot : ℕ) (list : List ℤ) (a : FillAsks ns r
   pub label-asks : LabelAsks (backward M) ns rs depot (M + 1) (replicate mostJunctions 0)
   label-asks =
       record {
-        readable = record { battery-le = a .battery-le; few = a .few; few-roads = a .few-roads; checked = a .records-ok };
-        source-in = a .depot-in;
-        some = omega arith;
-        label-le = omega arith;
+        sets-out =
+            record {
+              readable = record { battery-le = a .battery-le; few = a .few; few-roads = a .few-roads; checked = a .records-ok };
+              source-in = a .depot-in;
+              some = omega arith;
+              label-le = omega arith;
+            };
         long = length-replicate {A = ℕ} mostJunctions 0;
         no-label = zeros mostJunctions;
       }

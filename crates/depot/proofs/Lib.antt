@@ -1,3 +1,3 @@
 pub mod Filling
 pub mod OneOutcome
-pub mod TenBelow
+pub mod Below

@@ -7,6 +7,7 @@ use Prim.Native.Nat.{ℕ}
 use lib.IntN.{ℤ, pos, negsuc}
 use lib.Signed.{ltZ}
 use Rattle.network.specs.Files.{isJunction}
+use Rattle.planner.specs.Claims.{NoRoute}
 use Rattle.planner.specs.Order.{isStart, hasRoom}
 use Rattle.planner.specs.Promises.{Plans}
 use Rattle.planner.specs.declared.CheckNumbers.{CheckNumbers}
@@ -31,17 +32,21 @@ DepotHasZero =
 abbrev pub Short : ℤ → ℤ → Type 0
 Short start z = (ltZ start z ≡ true) ⊎ (z ≡ negsuc 0)
 
-pub record TenBelow (start z : ℤ) (b : PlanNumbers) : Type 0 where
-  pub only : b .number ≡ 10 → Short start z
-  pub given : Short start z → b .number ≡ 10
+-- no route exactly where the start is short; of its three reasons 10 where the number is a charge, which is its place, and 16 or
+-- 17 where it is −1
+pub record NoRouteBelow (start z : ℤ) (b : PlanNumbers) : Type 0 where
+  pub only : NoRoute (b .number) → Short start z
+  pub given : Short start z → NoRoute (b .number)
+  pub ten : b .number ≡ 10 → z ≡ pos (b .place)
+  pub never : (b .number ≡ 16) ⊎ (b .number ≡ 17) → z ≡ negsuc 0
 
--- best route is refused with 10 exactly below it, or always where it is −1: with the same files and battery size, from a
+-- best route is refused for no route exactly below it, or always where it is −1: with the same files and battery size, from a
 -- junction to the depot, with a start in range and room for a route
-abbrev pub TenExactlyBelow : Type 0
-TenExactlyBelow =
+abbrev pub NoRouteExactlyBelow : Type 0
+NoRouteExactlyBelow =
     (ns rs : List ℕ) (p : SetOffQuestion) (list : List ℤ) (a : CheckNumbers) (xs : List ℤ)
     (q : PlanQuestion) (route : List ℕ) (b : PlanNumbers) (ys : List ℕ)
     → SetsOff ns rs p list a xs → a .number ≡ 0 → Plans ns rs q route b ys
     → q .battery ≡ p .battery → q .target ≡ p .depot → isStart (q .battery) (q .start) ≡ true
     → isJunction ns (q .source) ≡ true → hasRoom ns route ≡ true
-    → TenBelow (q .start) (numberAt xs (q .source)) b
+    → NoRouteBelow (q .start) (numberAt xs (q .source)) b

@@ -1,18 +1,19 @@
--- A list of zeros; as a queue it is one in which nothing waits. Assumes nothing.
-use mathlib.Core.Path.{_≡_, refl}
+-- A list of zeros; as a queue it is one in which nothing waits, and the other way round. Assumes nothing.
+use mathlib.Core.Path.{_≡_, refl, ap}
 use mathlib.Core.List.{List}
 use mathlib.Core.Logic.{inl}
-use Prim.Native.Nat.{ℕ, zero, suc, _+_, _*_, _%_, _≤_}
+use Prim.Native.Nat.{ℕ, zero, suc, _+_, _*_, _-_, _%_, _≤_, _<_}
+use native.Mathlib.Decide.{decLt}
 use native.Mathlib.Omega.{arith}
 use lib.ListN.{length, replicate}
-use Rattle.frontier.specs.Frontier.{keysFrom, entry, Frontier, Top}
+use Rattle.frontier.specs.Frontier.{keysFrom, entry, AllZero, Frontier, Top}
 
 pub zeros : (n i : ℕ) → entry (replicate n 0) i ≡ 0
 zeros zero i = refl
 zeros (suc n) zero = refl
 zeros (suc n) (suc i) = zeros n i
 
-pub empty : (queue : List ℕ) → ((i : ℕ) → entry queue i ≡ 0) → keysFrom ≤ length queue → length queue % 8 ≡ 0 → Frontier queue
+pub empty : (queue : List ℕ) → AllZero queue → keysFrom ≤ length queue → length queue % 8 ≡ 0 → Frontier queue
 empty queue z l w = record {
   long = l;
   whole = w;
@@ -21,5 +22,21 @@ empty queue z l w = record {
   level = λ i _. rw (z i) (record { most = λ j _. omega (arith, z j); is = ((i + 1) * 8, omega arith, z ((i + 1) * 8)) });
 }
 
-pub empty-top : (queue : List ℕ) → ((i : ℕ) → entry queue i ≡ 0) → Top queue 0
+pub empty-top : (queue : List ℕ) → AllZero queue → Top queue 0
 empty-top queue z = record { most = λ v. omega (arith, z (keysFrom + v)); is = inl refl }
+
+-- where every key is 0, so is every entry: level by level, since an entry is one of the group below it
+module _ {queue : List ℕ} (f : Frontier queue) (t : Top queue 0) where
+  from-keys : (i : ℕ) → keysFrom ≤ i → entry queue i ≡ 0
+  from-keys i h = let e : keysFrom + (i - keysFrom) ≡ i = omega arith in omega (arith, ap (entry queue) e, t .most (i - keysFrom))
+
+  level-up : (a b : ℕ) → b ≤ a * 8 + 8 → b ≤ keysFrom → ((i : ℕ) → b ≤ i → entry queue i ≡ 0) → (i : ℕ) → a ≤ i → Dec (i < b)
+      → entry queue i ≡ 0
+  level-up a b h k z i l (yes u) = let (j, g, e) = f .level i (omega arith) .is in omega (arith, z j (omega arith))
+  level-up a b h k z i l (no u) = z i (omega arith)
+
+  pub emptied : AllZero queue
+  emptied i = from 0 8 (omega arith) (omega arith) (from 8 72 (omega arith) (omega arith) (from 72 584 (omega arith) (omega arith) from-keys)) i (omega arith)
+    where
+      from : (a b : ℕ) → b ≤ a * 8 + 8 → b ≤ keysFrom → ((i : ℕ) → b ≤ i → entry queue i ≡ 0) → (i : ℕ) → a ≤ i → entry queue i ≡ 0
+      from a b h k z i l = level-up a b h k z i l (decLt i b)

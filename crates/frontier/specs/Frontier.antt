@@ -17,6 +17,10 @@ keysFrom = 584
 abbrev pub entry : List ℕ → ℕ → ℕ
 entry queue i = getD queue i 0
 
+-- every entry is 0
+abbrev pub AllZero : List ℕ → Type 0
+AllZero queue = (i : ℕ) → entry queue i ≡ 0
+
 -- the key of place v, 0 where it does not wait
 abbrev pub keyAt : List ℕ → ℕ → ℕ
 keyAt queue v = entry queue (keysFrom + v)

@@ -19,8 +19,7 @@ use Rattle.network.specs.Walks.{Walk, roadsOf, Feasible}
 use Rattle.walks.specs.Walk.{stay, go}
 use Rattle.hill.specs.Charges.{Charges}
 use Rattle.hill.specs.Hill.{roads}
-use Rattle.hill.proofs.Rows.{to-3, hill-3, to-2, flat-2}
-use Rattle.hill.proofs.Walks.{Way, way, stays, by-0, by-1, by-2, by-3, by-0-1, by-1-3, by-2-3, by-0-1-3}
+use Rattle.hill.proofs.Walks.{Way, way, by-1, by-3, by-1-3, no-way, to-3, to-2, hill-3, flat-2}
 
 -- a walk with this profile needs b or more, or cannot be driven at all
 abbrev Needs : ℕ → Passage → Type 0
@@ -65,18 +64,6 @@ from-2 P p ks by-3 = p
 
 from-1-to-2 : One 1 2 (1 ∷ [])
 from-1-to-2 P p ks by-1 = p
-
--- no road leads back
-no-way : {X : Type 0} {v d : ℕ} {ks : List ℕ} → d < v → Way v ks d → X
-no-way h stays = absurd (omega arith)
-no-way h by-0 = absurd (omega arith)
-no-way h by-1 = absurd (omega arith)
-no-way h by-2 = absurd (omega arith)
-no-way h by-3 = absurd (omega arith)
-no-way h by-0-1 = absurd (omega arith)
-no-way h by-1-3 = absurd (omega arith)
-no-way h by-2-3 = absurd (omega arith)
-no-way h by-0-1-3 = absurd (omega arith)
 
 no-road-back : {m v d : ℕ} → d < v → SetOff m roads v d (negsuc 0)
 no-road-back h = never-of (λ ks w. no-way h w)

@@ -17,7 +17,8 @@ use Rattle.hill.specs.Broken.{RefusesAll, OneFixedArrival, NeverWrites, 
 use Rattle.hill.specs.Hill.{roads, asks}
 use Rattle.hill.specs.Table.{Only}
 use Rattle.hill.proofs.Outcomes.{BestBy, best-only, best-arrival}
-use Rattle.hill.proofs.Rows.{to-3, hill-3, better}
+use Rattle.hill.proofs.Rows.{better}
+use Rattle.hill.proofs.Walks.{to-3, hill-3}
 
 -- start 900 from 0 to 3: the van at the end, and the one outcome
 abbrev van-900 : Van

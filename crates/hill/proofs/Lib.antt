@@ -1,5 +1,5 @@
 pub mod Walks
 pub mod Outcomes
+pub mod Charges
 pub mod Rows
 pub mod Excluded
-pub mod Charges

@@ -8,16 +8,18 @@ use Prim.Native.Nat.{ℕ, _≤_, _<_}
 use native.Mathlib.Omega.{arith}
 use borrow.Author.Tests.{le-leb}
 use lib.ListN.{length, drop}
+use Rattle.numbers.specs.Signed.{draw}
 use Rattle.battery.specs.Drive.{driveAll}
 use Rattle.battery.specs.declared.Van.{Van}
 use Rattle.battery.specs.declared.Drove.{Drove}
 use Rattle.battery.specs.declared.Drove.the-variants.{On, TooLow}
-use Rattle.network.proofs.Faults.{both-true}
+use Rattle.network.proofs.Faults.{both-true, number-pos}
 use Rattle.network.specs.Check.{firstFrom, recordFault, recordsFault}
 use Rattle.network.specs.Files.{isJunction}
+use Rattle.network.specs.Reasons.{Reason}
 use Rattle.network.specs.Walks.{roadsOf}
 use Rattle.network.specs.declared.Checked.the-variants.{Passed}
-use Rattle.network.specs.declared.Refusal.the-variants.{NoRoute}
+use Rattle.network.specs.declared.Refusal.{Refusal}
 use Rattle.planner.proofs.OneOutcome.{not-both}
 use Rattle.planner.proofs.OnePlan.{one-plan}
 use Rattle.planner.specs.Given.{planNumbers}
@@ -98,7 +100,7 @@ module _ {q : PlanQuestion} {best : List ℕ} {v : Van} (b : BestBy q best v) wh
       only : (n : PlanNumbers) (xs : List ℕ) → Plans nodes roads q list n xs
           → (n ≡ planNumbers (planned.Route (length best) v)) × (xs ≡ best ++ drop (length best) list)
       only n xs (Plans.refused r e) = not-both (plan-passes q list (b .cleared) h) e
-      only n xs (Plans.none e no-walk) = absurd (no-walk best v (b .arrives))
+      only n xs (Plans.none r e no-walk why) = absurd (no-walk best v (b .arrives))
       only n xs (Plans.route ks u e g o m) =
           ⊎-elim (λ p. same (Plans.route ks u e g o m) (ap (λ (js : List ℕ). js ++ drop (length js) list) p))
           (λ s. absurd (omega (arith, short-of _ s (g .drives), m best v (b .arrives)))) (b .others ks (way (g .walk)))
@@ -121,17 +123,18 @@ module _ {q : PlanQuestion} {best : List ℕ} {v : Van} (b : BestBy q best v) wh
 
 pub none-only : (q : PlanQuestion) → clear q ≡ true
     → ((ks : List ℕ) → Way (q .source) ks (q .target) → driveAll (planVan q) (roadsOf roads ks) ≡ TooLow)
-    → (list : List ℕ) → 3 ≤ length list → Only q list (planNumbers (planned.Refused NoRoute)) list
-none-only q c low list h = record { allowed = given; only = only }
+    → (r : Refusal) → Reason (draw (q .battery)) roads (q .source) (q .target) r
+    → (list : List ℕ) → 3 ≤ length list → Only q list (planNumbers (planned.Refused r)) list
+none-only q c low r why list h = record { allowed = given; only = only }
   where
     no-walk : NoWalk roads q
     no-walk ks v g = let z : _≡_ {A = ℕ} 0 1 = cc (low ks (way (g .walk)), g .drives) in absurd (omega arith)
 
-    given : Plans nodes roads q list (planNumbers (planned.Refused NoRoute)) list
-    given = Plans.none (plan-passes q list c h) no-walk
+    given : Plans nodes roads q list (planNumbers (planned.Refused r)) list
+    given = Plans.none r (plan-passes q list c h) no-walk why
 
     only : (n : PlanNumbers) (xs : List ℕ) → Plans nodes roads q list n xs
-        → (n ≡ planNumbers (planned.Refused NoRoute)) × (xs ≡ list)
+        → (n ≡ planNumbers (planned.Refused r)) × (xs ≡ list)
     only n xs p =
-        let a = one-plan nodes roads q list _ n list xs given p .refusal (λ e. absurd (omega arith)) in
+        let a = one-plan nodes roads q list _ n list xs given p .refusal (λ e. omega (arith, number-pos r)) in
         (sym (a .0), sym (a .1))

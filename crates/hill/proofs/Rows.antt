@@ -1,10 +1,11 @@
--- The rows of the table, and the one unit that brings 301. Each row names its walks; the checker works out the rule.
+-- The rows of the table, and the one unit that brings 301. Each row names its walks, and a row without a route its reason; the
+-- checker works out the rule.
 -- Assumes nothing.
 use mathlib.Core.Path.{_≡_, refl, subst}
 use mathlib.Core.Bool.{true}
-use mathlib.Core.List.{List, [], _∷_}
+use mathlib.Core.List.{List, []}
 use mathlib.Core.Logic.{inl, inr}
-use Prim.Native.Nat.{ℕ}
+use Prim.Native.Nat.{ℕ, _<_}
 use native.Mathlib.Omega.{arith}
 use lib.IntN.{ℤ, pos}
 use Rattle.battery.specs.Drive.{driven, drive, driveAll}
@@ -14,11 +15,15 @@ use Rattle.battery.specs.declared.Passage.the-variants.{Passable}
 use Rattle.battery.specs.declared.Van.{Van}
 use Rattle.battery.specs.declared.Drove.the-variants.{On, TooLow}
 use Rattle.network.specs.Check.{firstFrom, recordFault}
+use Rattle.network.specs.Reasons.{Reason, more-charge, never-enough, not-joined}
+use Rattle.network.specs.Refusals.{numberOf, placeOf}
 use Rattle.network.specs.Walks.{Walk, roadsOf}
 use Rattle.network.specs.declared.Checked.the-variants.{Passed}
+use Rattle.network.specs.declared.Refusal.{Refusal}
+use Rattle.network.specs.declared.Refusal.the-variants.{NotJoined}
 use Rattle.routes.specs.Places.{placeFault}
 use Rattle.routes.specs.declared.Driven.the-variants as route
-use Rattle.walks.specs.Walk.{stay, go}
+use Rattle.walks.specs.Walk.{stay}
 use Rattle.planner.specs.Given.{driveNumbers}
 use Rattle.planner.specs.Order.{vanOf, planVan, driveFault, profileFault}
 use Rattle.planner.specs.Promises.{Drives, Profiles}
@@ -26,33 +31,8 @@ use Rattle.planner.specs.declared.DriveQuestion.{DriveQuestion}
 use Rattle.hill.specs.Hill.{nodes, roads, asks}
 use Rattle.hill.specs.Table.{Row, DriveRow, Says, TableHolds, OneMoreBrings301}
 use Rattle.hill.proofs.Outcomes.{clear, Short, Else, BestBy, best-row, best-arrival, none-only}
-use Rattle.hill.proofs.Walks.{Way, stays, by-2, by-0-1, by-2-3, by-0-1-3}
-
--- ---- the walks between the junctions of the rows
-
--- the walks by `one` and by `other` are all from s to t
-abbrev pub Two : ℕ → ℕ → List ℕ → List ℕ → Type 1
-Two s t one other = (P : List ℕ → Type 0) → P one → P other → (ks : List ℕ) → Way s ks t → P ks
-
-pub to-3 : Two 0 3 (0 ∷ 1 ∷ 3 ∷ []) (2 ∷ 3 ∷ [])
-to-3 P hill flat ks by-0-1-3 = hill
-to-3 P hill flat ks by-2-3 = flat
-
-pub to-2 : Two 0 2 (0 ∷ 1 ∷ []) (2 ∷ [])
-to-2 P hill flat ks by-0-1 = hill
-to-2 P hill flat ks by-2 = flat
-
-to-2-flat : Two 0 2 (2 ∷ []) (0 ∷ 1 ∷ [])
-to-2-flat P flat hill ks w = to-2 P hill flat ks w
-
-pub hill-3 : Walk roads 0 (0 ∷ 1 ∷ 3 ∷ []) 3
-hill-3 = go 0 (omega arith) refl (go 1 (omega arith) refl (go 3 (omega arith) refl stay))
-
-hill-2 : Walk roads 0 (0 ∷ 1 ∷ []) 2
-hill-2 = go 0 (omega arith) refl (go 1 (omega arith) refl stay)
-
-pub flat-2 : Walk roads 0 (2 ∷ []) 2
-flat-2 = go 2 (omega arith) refl stay
+use Rattle.hill.proofs.Charges.{charges}
+use Rattle.hill.proofs.Walks.{Way, way, stays, no-way, Two, to-3, to-2, to-2-flat, hill-3, hill-2, flat-2}
 
 -- ---- rows of best route
 
@@ -68,9 +48,17 @@ module _ {m b s t : ℕ} {one other : List ℕ} (two : Two s t one other) where
         others = two (Else (asks m b s t) one (v .charge)) (inl refl) (inr h);
       }
 
-  neither : clear (asks m b s t) ≡ true → driveAll (planVan (asks m b s t)) (roadsOf roads one) ≡ TooLow
-      → driveAll (planVan (asks m b s t)) (roadsOf roads other) ≡ TooLow → Says (Row.no-route m b s t)
-  neither c d e = none-only (asks m b s t) c (two (λ ks. driveAll (planVan (asks m b s t)) (roadsOf roads ks) ≡ TooLow) d e)
+  neither : {r : Refusal} → Reason m roads s t r → clear (asks m b s t) ≡ true
+      → driveAll (planVan (asks m b s t)) (roadsOf roads one) ≡ TooLow
+      → driveAll (planVan (asks m b s t)) (roadsOf roads other) ≡ TooLow
+      → Says (Row.no-route m b s t (numberOf r) (placeOf r))
+  neither why c d e =
+      none-only (asks m b s t) c (two (λ ks. driveAll (planVan (asks m b s t)) (roadsOf roads ks) ≡ TooLow) d e) _ why
+
+-- no road leads back
+back : {m b s t : ℕ} → t < s → clear (asks m b s t) ≡ true → Says (Row.no-route m b s t 17 0)
+back {m} {b} {s} {t} h c =
+    none-only (asks m b s t) c (λ ks w. no-way h w) NotJoined (not-joined (λ j. no-way h (way (j .walk))))
 
 -- from 1 to 1
 only-stays : (ks : List ℕ) → Way 1 ks 1 → Else (asks 1000 0 1 1) [] 0 ks
@@ -108,7 +96,7 @@ table-holds = (
   (
     best-row (better to-3 hill-3 refl refl tt) refl,
     (
-      neither to-3 refl refl refl,
+      neither to-3 (more-charge (charges .to-3 .at-0)) refl refl refl,
       (
         best-row (better to-2 hill-2 refl refl (omega arith)) refl,
         (
@@ -116,18 +104,21 @@ table-holds = (
           (
             best-row (better to-2-flat flat-2 refl refl tt) refl,
             (
-              neither to-2 refl refl refl,
+              neither to-2 (more-charge (charges .to-2 .at-0)) refl refl refl,
               (
                 best-row (record { cleared = refl; arrives = record { walk = stay; drives = refl }; others = only-stays }) refl,
                 (
                   best-row (better to-3 hill-3 refl refl tt) refl,
                   (
-                    neither to-3 refl refl refl,
+                    neither to-3 (never-enough (charges .at-899 .at-0) (record { by = _; walk = hill-3 })) refl refl refl,
                     (
-                      drive-row refl refl refl refl,
+                      back (omega arith) refl,
                       (
-                        profile-row refl refl refl refl refl,
-                        tt,
+                        drive-row refl refl refl refl,
+                        (
+                          profile-row refl refl refl refl refl,
+                          tt,
+                        ),
                       ),
                     ),
                   ),

@@ -9,7 +9,7 @@ use native.Mathlib.Decide.{ℕ-discrete}
 use Rattle.network.specs.Check.{unless, first, firstOf, firstFrom}
 use Rattle.network.specs.Refusals.{numberOf}
 use Rattle.network.specs.declared.Refusal.{Refusal}
-use Rattle.network.specs.declared.Refusal.the-variants.{JunctionFile, RoadFile, Battery, Start, NoJunction, ShortList, Ends, Consumption, Potential, NoRoute, LongRoute, NotRoad, NotHere, TooLow, Impassable}
+use Rattle.network.specs.declared.Refusal.the-variants.{JunctionFile, RoadFile, Battery, Start, NoJunction, ShortList, Ends, Consumption, Potential, MoreCharge, LongRoute, NotRoad, NotHere, TooLow, Impassable, NeverEnough, NotJoined}
 use Rattle.network.specs.declared.Checked.{Checked}
 use Rattle.network.specs.declared.Checked.the-variants.{Passed, Refused}
 
@@ -116,9 +116,11 @@ number-pos ShortList = omega arith
 number-pos (Ends k) = omega arith
 number-pos (Consumption k) = omega arith
 number-pos (Potential k) = omega arith
-number-pos NoRoute = omega arith
+number-pos (MoreCharge b) = omega arith
 number-pos LongRoute = omega arith
 number-pos (NotRoad i) = omega arith
 number-pos (NotHere i) = omega arith
 number-pos (TooLow i) = omega arith
 number-pos (Impassable i) = omega arith
+number-pos NeverEnough = omega arith
+number-pos NotJoined = omega arith

@@ -7,9 +7,11 @@ use lib.IntN.{ℤ, pos}
 use lib.Signed.{leZ}
 use Rattle.network.specs.Check.{recordsFault}
 use Rattle.network.specs.Files.{Passing}
+use Rattle.network.specs.Reasons.{Reason}
 use Rattle.network.specs.SetOff.{Enough, SetOff}
 use Rattle.network.specs.Walks.{Walk, roadsOf, sumOf}
 use Rattle.network.specs.declared.Checked.the-variants.{Passed}
+use Rattle.network.specs.declared.Refusal.{Refusal}
 
 -- if all roads pass, no closed trip gains energy: its consumptions sum to 0 or more
 abbrev pub NoClosedGain : Type 0
@@ -27,3 +29,7 @@ OneNumber = (M : ℕ) (rs : List ℕ) (v depot : ℕ) (x y : ℤ) → SetOff M r
 -- what is enough stays enough with more, up to a full battery
 abbrev pub MoreIsEnough : Type 0
 MoreIsEnough = (M : ℕ) (rs : List ℕ) (v depot b c : ℕ) → Enough M rs v depot b → b ≤ c → c ≤ M → Enough M rs v depot c
+
+-- two junctions have one reason at most
+abbrev pub OneReason : Type 0
+OneReason = (M : ℕ) (rs : List ℕ) (v w : ℕ) (r r' : Refusal) → Reason M rs v w r → Reason M rs v w r' → r ≡ r'

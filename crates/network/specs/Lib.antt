@@ -3,4 +3,5 @@ pub mod Refusals
 pub mod Check
 pub mod Walks
 pub mod SetOff
+pub mod Reasons
 pub mod Claims

@@ -1,7 +1,7 @@
--- Document 01's numbers given back, and the place of each.
+-- The numbers given back, document 01's and request [2]'s 16 and 17, and the place of each.
 use Prim.Native.Nat.{ℕ}
 use Rattle.network.specs.declared.Refusal.{Refusal}
-use Rattle.network.specs.declared.Refusal.the-variants.{JunctionFile, RoadFile, Battery, Start, NoJunction, ShortList, Ends, Consumption, Potential, NoRoute, LongRoute, NotRoad, NotHere, TooLow, Impassable}
+use Rattle.network.specs.declared.Refusal.the-variants.{JunctionFile, RoadFile, Battery, Start, NoJunction, ShortList, Ends, Consumption, Potential, MoreCharge, LongRoute, NotRoad, NotHere, TooLow, Impassable, NeverEnough, NotJoined}
 
 abbrev pub numberOf : Refusal → ℕ
 numberOf JunctionFile = 1
@@ -13,14 +13,16 @@ numberOf ShortList = 6
 numberOf (Ends k) = 7
 numberOf (Consumption k) = 8
 numberOf (Potential k) = 9
-numberOf NoRoute = 10
+numberOf (MoreCharge b) = 10
 numberOf LongRoute = 11
 numberOf (NotRoad i) = 12
 numberOf (NotHere i) = 13
 numberOf (TooLow i) = 14
 numberOf (Impassable i) = 15
+numberOf NeverEnough = 16
+numberOf NotJoined = 17
 
--- a record's fault gives the record, a route entry's its place, any other 0
+-- a record's fault gives the record, a route entry's its place, 10 the least start charge, any other 0
 abbrev pub placeOf : Refusal → ℕ
 placeOf JunctionFile = 0
 placeOf RoadFile = 0
@@ -31,9 +33,11 @@ placeOf ShortList = 0
 placeOf (Ends k) = k
 placeOf (Consumption k) = k
 placeOf (Potential k) = k
-placeOf NoRoute = 0
+placeOf (MoreCharge b) = b
 placeOf LongRoute = 0
 placeOf (NotRoad i) = i
 placeOf (NotHere i) = i
 placeOf (TooLow i) = i
 placeOf (Impassable i) = i
+placeOf NeverEnough = 0
+placeOf NotJoined = 0

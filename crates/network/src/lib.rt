@@ -17,8 +17,8 @@ pub const MOST_JUNCTIONS: usize = 2048;
 
 pub const MOST_ROADS: usize = 8192;
 
-// Why a question is refused: 1 to 15 in document 01's order. A number is the record or the place in
-// the route.
+// Why a question is refused: 1 to 15 in document 01's order, then request [2]'s 16 and 17. A number
+// is the record, the least start charge or the place in the route.
 pub enum Refusal {
     JunctionFile,
     RoadFile,
@@ -29,12 +29,14 @@ pub enum Refusal {
     Ends(usize),
     Consumption(usize),
     Potential(usize),
-    NoRoute,
+    MoreCharge(u32),
     LongRoute,
     NotRoad(usize),
     NotHere(usize),
     TooLow(usize),
     Impassable(usize),
+    NeverEnough,
+    NotJoined,
 }
 
 // What a check comes to.
@@ -57,16 +59,18 @@ pub fn number(r: Refusal) -> u64
         Refusal::Ends(_) => 7,
         Refusal::Consumption(_) => 8,
         Refusal::Potential(_) => 9,
-        Refusal::NoRoute => 10,
+        Refusal::MoreCharge(_) => 10,
         Refusal::LongRoute => 11,
         Refusal::NotRoad(_) => 12,
         Refusal::NotHere(_) => 13,
         Refusal::TooLow(_) => 14,
         Refusal::Impassable(_) => 15,
+        Refusal::NeverEnough => 16,
+        Refusal::NotJoined => 17,
     }
 }
 
-// The place of the first fault.
+// The place of the first fault, and of 10 the least start charge.
 pub fn place(r: Refusal) -> u64
     ensures { λ n. ⌜ n ≡ placeOf r ⌝ }
 {
@@ -80,12 +84,14 @@ pub fn place(r: Refusal) -> u64
         Refusal::Ends(k) => k as u64,
         Refusal::Consumption(k) => k as u64,
         Refusal::Potential(k) => k as u64,
-        Refusal::NoRoute => 0,
+        Refusal::MoreCharge(b) => b as u64,
         Refusal::LongRoute => 0,
         Refusal::NotRoad(i) => i as u64,
         Refusal::NotHere(i) => i as u64,
         Refusal::TooLow(i) => i as u64,
         Refusal::Impassable(i) => i as u64,
+        Refusal::NeverEnough => 0,
+        Refusal::NotJoined => 0,
     }
 }
 

@@ -31,7 +31,7 @@ no-file (query m b u v l) = WithoutFiles.none m b u v l
 fits : {ns rs list xs : List ℕ} {q : PlanQuestion} {a : PlanNumbers} → Plans ns rs q list a xs → a .number ≡ 0
     → length xs ≡ length list → a .roads ≤ length xs
 fits (refused r f) z l = let p = number-pos r in absurd (omega arith)
-fits (none f w) z l = absurd (omega arith)
+fits (none r f w why) z l = let p = number-pos r in absurd (omega arith)
 fits {list} (route ks v f w o m) z l =
     let a = length-append ks (drop (length ks) list) in
     let b = length-drop (length ks) list in

@@ -13,12 +13,13 @@ use Rattle.battery.specs.declared.Van.{Van}
 use Rattle.network.proofs.Faults.{number-pos}
 use Rattle.network.specs.Walks.{Walk, roadsOf}
 use Rattle.walks.specs.Walk.{stay, go}
-use Rattle.planner.specs.Claims.{NoHarder, BestNoLess}
+use Rattle.planner.specs.Claims.{NoRoute, NoHarder, BestNoLess}
 use Rattle.planner.specs.Order.{planVan}
 use Rattle.planner.specs.Promises.{Arrives, Plans}
 use Rattle.planner.specs.declared.PlanNumbers.{PlanNumbers}
 use Rattle.planner.specs.declared.PlanQuestion.{PlanQuestion}
 use Rattle.planner.proofs.Early.{refused-early}
+use Rattle.planner.proofs.NoRoutes.{no-route-late}
 
 -- ---- two networks
 
@@ -42,10 +43,10 @@ beside rs rs' {w} n (go k h e walk) =
 
 -- where a walk arrives with c or more, best route has a route, which arrives with c or more
 second : {ns rs list ys ks : List ℕ} {q : PlanQuestion} {b : PlanNumbers} {w : Van} {c : ℕ} → Plans ns rs q list b ys
-    → (b .number ≡ 0) ⊎ (b .number ≡ 10) → Arrives rs q ks w → c ≤ w .charge → (b .number ≡ 0) × (c ≤ b .arrival)
+    → (b .number ≡ 0) ⊎ NoRoute (b .number) → Arrives rs q ks w → c ≤ w .charge → (b .number ≡ 0) × (c ≤ b .arrival)
 second (Plans.refused r e) (inl n) a h = absurd (omega (arith, number-pos r))
-second {ns} {rs} {list} {q} (Plans.refused r e) (inr n) a h = absurd (omega (arith, refused-early ns rs q list e))
-second {ks} {w} (Plans.none e no-walk) n a h = absurd (no-walk ks w a)
+second {ns} {rs} {list} {q} (Plans.refused r e) (inr n) a h = absurd (omega (arith, refused-early ns rs q list e, no-route-late n))
+second {ks} {w} (Plans.none r e no-walk why) n a h = absurd (no-walk ks w a)
 second {ks} {w} (Plans.route js u e g o most) n a h = (refl, omega (arith, most ks w a))
 
 sets-out : (q q' : PlanQuestion) → leZ (q .battery) (q' .battery) ≡ true → leZ (q .start) (q' .start) ≡ true
@@ -56,7 +57,8 @@ sets-out q q' m b =
 pub best-no-less : BestNoLess
 best-no-less ns rs ns' rs' q q' list list' a b xs ys (Plans.refused r e) p s t harder m st z n =
     absurd (omega (arith, number-pos r))
-best-no-less ns rs ns' rs' q q' list list' a b xs ys (Plans.none e no-walk) p s t harder m st z n = absurd (omega arith)
+best-no-less ns rs ns' rs' q q' list list' a b xs ys (Plans.none r e no-walk why) p s t harder m st z n =
+    absurd (omega (arith, number-pos r))
 best-no-less ns rs ns' rs' q q' list list' a b xs ys (Plans.route ks v e g o most) p s t harder m st z n =
     let w = subst (λ x. Walk rs x ks (q' .target)) s (subst (λ x. Walk rs (q .source) ks x) t (g .walk)) in
     let r = beside rs rs' harder w in

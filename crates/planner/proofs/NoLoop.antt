@@ -8,9 +8,9 @@ use Rattle.battery.specs.declared.Drove.{Drove}
 use Rattle.battery.specs.declared.Drove.the-variants.{On, TooLow}
 use Rattle.battery.specs.declared.Van.{Van}
 use Rattle.network.specs.Walks.{roadsOf}
-use Rattle.search.proofs.Forward.{forward, label, label-after}
+use Rattle.search.proofs.Forward.{label, label-after}
 use Rattle.search.proofs.Laws.{laws-of}
-use Rattle.search.specs.Reading.{psi, net}
+use Rattle.search.specs.Reading.{forward, psi, net}
 use Rattle.walks.proofs.Loops.{loop-no-more}
 use Rattle.planner.specs.Claims.{LoopNoMore}
 

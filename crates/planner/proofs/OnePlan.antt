@@ -7,6 +7,7 @@ use native.Mathlib.Omega.{arith}
 use lib.ListN.{length}
 use Rattle.battery.specs.Drive.{driveAll}
 use Rattle.battery.specs.declared.Van.{Van}
+use Rattle.network.proofs.Reasons.{one-reason}
 use Rattle.network.specs.Walks.{roadsOf}
 use Rattle.network.specs.declared.Refusal.{Refusal}
 use Rattle.walks.proofs.Stops.{once-begins}
@@ -42,13 +43,14 @@ same-roads {rs} {q} {ks} {js} {v} {w} a b e =
 pub one-plan : OnePlan
 one-plan ns rs q list a b xs ys (Plans.refused r e) (Plans.refused s f) =
     agree-same (ap (λ (x : Refusal). planNumbers (planned.Refused x)) (same-refusal e f))
-one-plan ns rs q list a b xs ys (Plans.refused r e) (Plans.none f h) = not-both f e
+one-plan ns rs q list a b xs ys (Plans.refused r e) (Plans.none s f h y) = not-both f e
 one-plan ns rs q list a b xs ys (Plans.refused r e) (Plans.route js w f h o m) = not-both f e
-one-plan ns rs q list a b xs ys (Plans.none e g) (Plans.refused s f) = not-both e f
-one-plan ns rs q list a b xs ys (Plans.none e g) (Plans.none f h) = agree-same refl
-one-plan ns rs q list a b xs ys (Plans.none e g) (Plans.route js w f h o m) = absurd (g js w h)
+one-plan ns rs q list a b xs ys (Plans.none r e g x) (Plans.refused s f) = not-both e f
+one-plan ns rs q list a b xs ys (Plans.none r e g x) (Plans.none s f h y) =
+    agree-same (ap (λ (z : Refusal). planNumbers (planned.Refused z)) (one-reason _ rs _ _ r s x y))
+one-plan ns rs q list a b xs ys (Plans.none r e g x) (Plans.route js w f h o m) = absurd (g js w h)
 one-plan ns rs q list a b xs ys (Plans.route ks v e g o m) (Plans.refused s f) = not-both e f
-one-plan ns rs q list a b xs ys (Plans.route ks v e g o m) (Plans.none f h) = absurd (h ks v g)
+one-plan ns rs q list a b xs ys (Plans.route ks v e g o m) (Plans.none s f h y) = absurd (h ks v g)
 one-plan ns rs q list a b xs ys (Plans.route ks v e g o m) (Plans.route js w f h o' m') =
     record {
       number-is = refl;

@@ -40,6 +40,6 @@ no-roads rs q list ks v e d =
 
 pub same-junction : SameJunction
 same-junction ns rs q list a xs (Plans.refused r f) e p = not-both p f
-same-junction ns rs q list a xs (Plans.none f n) e p = absurd (n [] (planVan q) (stay-arrives rs q e))
+same-junction ns rs q list a xs (Plans.none r f n why) e p = absurd (n [] (planVan q) (stay-arrives rs q e))
 same-junction ns rs q list a xs (Plans.route ks v f g o m) e p =
     no-roads rs q list ks v (once-closed (g .walk) e o) (g .drives)

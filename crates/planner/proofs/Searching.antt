@@ -13,14 +13,14 @@ use Rattle.battery.specs.declared.Van.{Van}
 use Rattle.network.specs.Files.{junctions}
 use Rattle.network.specs.Walks.{Once, roadsOf}
 use Rattle.network.specs.declared.Checked.the-variants as checked
-use Rattle.network.specs.declared.Refusal.the-variants.{NoRoute}
+use Rattle.network.specs.declared.Refusal.{Refusal}
 use Rattle.routes.proofs.Exactly.{driven-exactly}
 use Rattle.routes.specs.Steps.{DriveAsks}
-use Rattle.walks.specs.Label.{after, Best}
-use Rattle.search.proofs.Forward.{forward, label, label-after}
-use Rattle.search.specs.Found.{Finds, nowhere, route}
-use Rattle.search.specs.Reading.{net}
-use Rattle.search.specs.Steps.{FindAsks}
+use Rattle.walks.specs.Label.{after}
+use Rattle.search.proofs.Forward.{label, label-after}
+use Rattle.search.specs.Found.{BestOf, Finds, nowhere, route}
+use Rattle.search.specs.Reading.{forward, net}
+use Rattle.search.specs.Searches.{FindAsks}
 use Rattle.search.specs.declared.Found.{Found}
 use Rattle.search.specs.declared.Found.the-variants.{Nowhere, Roads}
 use Rattle.search.specs.declared.Trip.{Trip}
@@ -38,28 +38,30 @@ abbrev pub tripFor : PlanQuestion → Van → Trip
 tripFor q v = record { source = q .source; label = v .charge + 1; target = q .target }
 
 pub find-asks : (ns rs : List ℕ) (q : PlanQuestion) (list : List ℕ) → PlanCleared ns rs q list
-    → FindAsks (forward (draw (q .battery))) ns rs (tripFor q (planVan q)) list
+    → FindAsks (draw (q .battery)) ns rs (tripFor q (planVan q)) list
 find-asks ns rs q list c =
     let s = start-whole (q .battery) (q .start) (c .battery-ok) (c .start-ok) in
     record {
-      readable =
+      sets-out =
           record {
-            battery-le = battery-whole (q .battery) (c .battery-ok) .draw-le;
-            few = c .few;
-            few-roads = c .few-roads;
-            checked = c .records-ok;
+            readable =
+                record {
+                  battery-le = battery-whole (q .battery) (c .battery-ok) .draw-le;
+                  few = c .few;
+                  few-roads = c .few-roads;
+                  checked = c .records-ok;
+                };
+            source-in = c .source-in;
+            some = omega arith;
+            label-le = omega (arith, s .1);
           };
-      source-in = c .source-in;
       target-in = c .target-in;
-      some = omega arith;
-      label-le = omega (arith, s .1);
       room = c .room;
     }
 
 -- what the search promises for the van v
 abbrev pub FindsFor : List ℕ → List ℕ → PlanQuestion → Van → List ℕ → Found → List ℕ → Type 0
-FindsFor ns rs q v list found list' =
-    Finds (net (forward (v .battery)) rs) (junctions ns) (q .source) (v .charge + 1) (q .target) list found list'
+FindsFor ns rs q v list found list' = Finds (v .battery) ns rs (tripFor q v) list found list'
 
 -- ---- labels and charges
 
@@ -82,7 +84,7 @@ module _ (rs : List ℕ) (q : PlanQuestion) where
   brings-on ks v a = brings-is ks ∙ ap label (a .drives)
 
   -- no walk brings more than the best label
-  bound : (x : ℕ) → Best (net (forward (draw (q .battery))) rs) (q .source) (draw (q .start) + 1) (q .target) x
+  bound : (x : ℕ) → BestOf (draw (q .battery)) rs (tripFor q (planVan q)) x
       → (ks : List ℕ) (v : Van) → Arrives rs q ks v → suc (v .charge) ≤ x
   unfolding net brings
   bound x b ks v a = omega (arith, brings-on ks v a, b .most ks (a .walk))
@@ -91,10 +93,9 @@ module _ (rs : List ℕ) (q : PlanQuestion) where
 
 module _ (ns rs : List ℕ) (q : PlanQuestion) (list : List ℕ) (passed : planFault ns rs q list ≡ checked.Passed) where
   -- no route
-  pub plans-none : (list' : List ℕ)
-      → FindsFor ns rs q (planVan q) list Nowhere list'
-      → Plans ns rs q list (planNumbers (planned.Refused NoRoute)) list'
-  plans-none list' (nowhere best) = Plans.none passed (λ ks v a. omega (arith, bound rs q 0 best ks v a))
+  pub plans-none : (r : Refusal) (list' : List ℕ) → FindsFor ns rs q (planVan q) list (Nowhere r) list'
+      → Plans ns rs q list (planNumbers (planned.Refused r)) list'
+  plans-none r list' (nowhere best reason) = Plans.none r passed (λ ks v a. omega (arith, bound rs q 0 best ks v a)) reason
 
 -- a route, in roads and charges
 pub record BestWalk (ns rs : List ℕ) (q : PlanQuestion) (list : List ℕ) (count : ℕ) (list' : List ℕ) : Type 0 where

@@ -11,6 +11,8 @@ use Rattle.battery.specs.declared.Drove.the-variants.{On}
 use Rattle.battery.specs.declared.Road.{Road}
 use Rattle.battery.specs.declared.Van.{Van}
 use Rattle.network.specs.Files.{roadCount, roadOf, Passing}
+use Rattle.network.specs.Reasons.{Joined}
+use Rattle.network.specs.SetOff.{Enough}
 use Rattle.network.specs.Walks.{Walk, roadsOf}
 use Rattle.network.specs.declared.Checked.the-variants.{Passed}
 use Rattle.planner.specs.Order.{planFault}
@@ -70,15 +72,54 @@ FixedRoute =
     → a .number ≡ 0 → (b .number ≡ 0) ⊎ (b .number ≡ 14)
     → NoLess q q' a b
 
--- 10 exactly when no feasible walk exists and none of 1 to 9 applies
-pub record Ten (ns rs : List ℕ) (q : PlanQuestion) (list : List ℕ) (a : PlanNumbers) : Type 0 where
-  pub means : a .number ≡ 10 → (planFault ns rs q list ≡ Passed) × NoWalk rs q
-  pub given : planFault ns rs q list ≡ Passed → NoWalk rs q → a .number ≡ 10
+-- the numbers for no route
+abbrev pub NoRoute : ℕ → Type 0
+NoRoute n = (n ≡ 10) ⊎ ((n ≡ 16) ⊎ (n ≡ 17))
 
-abbrev pub TenExactly : Type 0
-TenExactly =
+-- one of them exactly when no feasible walk exists and none of 1 to 9 applies
+pub record Exactly (ns rs : List ℕ) (q : PlanQuestion) (list : List ℕ) (a : PlanNumbers) : Type 0 where
+  pub means : NoRoute (a .number) → (planFault ns rs q list ≡ Passed) × NoWalk rs q
+  pub given : planFault ns rs q list ≡ Passed → NoWalk rs q → NoRoute (a .number)
+
+abbrev pub NoRouteExactly : Type 0
+NoRouteExactly =
     (ns rs : List ℕ) (q : PlanQuestion) (list : List ℕ) (a : PlanNumbers) (xs : List ℕ)
-    → Plans ns rs q list a xs → Ten ns rs q list a
+    → Plans ns rs q list a xs → Exactly ns rs q list a
+
+-- from the start charge b, up to a full battery, some walk is feasible
+abbrev pub WouldDo : List ℕ → PlanQuestion → ℕ → Type 0
+WouldDo rs q b = Enough (draw (q .battery)) rs (q .source) (q .target) b
+
+-- p is the least of these, and above the start given
+pub record LeastStart (rs : List ℕ) (q : PlanQuestion) (p : ℕ) : Type 0 where
+  pub would-do : WouldDo rs q p
+  pub least : (b : ℕ) → WouldDo rs q b → p ≤ b
+  pub above : draw (q .start) < p
+
+-- 16 and 17 have place 0; no start would do, and a chain of roads joins source and target, or none does
+pub record NoStart (rs : List ℕ) (q : PlanQuestion) (p : ℕ) : Type 0 where
+  pub place-is : p ≡ 0
+  pub never : (b : ℕ) → WouldDo rs q b → ⊥
+  pub joined : Joined rs (q .source) (q .target)
+
+pub record NoChain (rs : List ℕ) (q : PlanQuestion) (p : ℕ) : Type 0 where
+  pub place-is : p ≡ 0
+  pub none : Joined rs (q .source) (q .target) → ⊥
+
+-- which of the three it is, where no feasible walk exists and none of 1 to 9 applies
+pub record WhichReason (ns rs : List ℕ) (q : PlanQuestion) (list : List ℕ) (a : PlanNumbers) : Type 0 where
+  pub ten-means : a .number ≡ 10 → LeastStart rs q (a .place)
+  pub ten-given : planFault ns rs q list ≡ Passed → NoWalk rs q → (b : ℕ) → WouldDo rs q b → a .number ≡ 10
+  pub sixteen-means : a .number ≡ 16 → NoStart rs q (a .place)
+  pub sixteen-given : planFault ns rs q list ≡ Passed → ((b : ℕ) → WouldDo rs q b → ⊥) → Joined rs (q .source) (q .target)
+      → a .number ≡ 16
+  pub seventeen-means : a .number ≡ 17 → NoChain rs q (a .place)
+  pub seventeen-given : planFault ns rs q list ≡ Passed → (Joined rs (q .source) (q .target) → ⊥) → a .number ≡ 17
+
+abbrev pub ReasonExactly : Type 0
+ReasonExactly =
+    (ns rs : List ℕ) (q : PlanQuestion) (list : List ℕ) (a : PlanNumbers) (xs : List ℕ)
+    → Plans ns rs q list a xs → WhichReason ns rs q list a
 
 -- the second network is no harder: each road of the first has a road with the same ends and no higher consumption in it
 pub record NoHigher (r r' : Road) : Type 0 where
@@ -89,7 +130,7 @@ pub record NoHigher (r r' : Road) : Type 0 where
 abbrev pub NoHarder : List ℕ → List ℕ → Type 0
 NoHarder rs rs' = (k : ℕ) → k < roadCount rs → (j : ℕ) × (j < roadCount rs') × NoHigher (roadOf rs k) (roadOf rs' j)
 
--- demand 3 of best arrivals. Two queries between the same junctions, neither refused except perhaps for no route (10); the
+-- demand 3 of best arrivals. Two queries between the same junctions, neither refused except perhaps for no route; the
 -- second has a network no harder, and neither battery nor start is lower: a route in the first means a route in the second,
 -- arriving with no less. No limit from above is claimed here
 abbrev pub BestNoLess : Type 0
@@ -97,7 +138,7 @@ BestNoLess =
     (ns rs ns' rs' : List ℕ) (q q' : PlanQuestion) (list list' : List ℕ) (a b : PlanNumbers) (xs ys : List ℕ)
     → Plans ns rs q list a xs → Plans ns' rs' q' list' b ys
     → q .source ≡ q' .source → q .target ≡ q' .target → NoHarder rs rs' → leZ (q .battery) (q' .battery) ≡ true
-    → leZ (q .start) (q' .start) ≡ true → a .number ≡ 0 → (b .number ≡ 0) ⊎ (b .number ≡ 10)
+    → leZ (q .start) (q' .start) ≡ true → a .number ≡ 0 → (b .number ≡ 0) ⊎ NoRoute (b .number)
     → (b .number ≡ 0) × (a .arrival ≤ b .arrival)
 
 -- source = target: the empty route, arrival = start, nothing drawn, recovered or spilled

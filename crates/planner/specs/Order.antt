@@ -43,7 +43,7 @@ planVan q = fresh (draw (q .battery)) (draw (q .start))
 abbrev pub hasRoom : List ℕ → List ℕ → Bool
 hasRoom ns list = leb (junctions ns - 1) (length list)
 
--- best route: 1 to 6 in order, then the records. 10 comes after these: see the promise
+-- best route: 1 to 6 in order, then the records. 10, 16 and 17 come after these: see the promise
 unfoldable pub planFault : List ℕ → List ℕ → PlanQuestion → List ℕ → Checked
 planFault ns rs q list =
     firstOf

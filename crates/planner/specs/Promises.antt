@@ -12,9 +12,9 @@ use Rattle.battery.specs.declared.Passage.the-variants.{Passable}
 use Rattle.battery.specs.declared.Van.{Van}
 use Rattle.battery.specs.declared.Drove.the-variants.{On}
 use Rattle.network.specs.Check.{checkFault}
+use Rattle.network.specs.Reasons.{Reason}
 use Rattle.network.specs.Walks.{Walk, Once, roadsOf}
 use Rattle.network.specs.declared.Refusal.{Refusal}
-use Rattle.network.specs.declared.Refusal.the-variants.{NoRoute}
 use Rattle.network.specs.declared.Checked.the-variants.{Passed, Refused}
 use Rattle.routes.specs.declared.Driven.the-variants as driven
 use Rattle.routes.specs.declared.Profiled.the-variants as profiled
@@ -47,11 +47,13 @@ Most rs q a = (ks : List ℕ) (v : Van) → Arrives rs q ks v → v .charge ≤ 
 abbrev pub NoWalk : List ℕ → PlanQuestion → Type 0
 NoWalk rs q = (ks : List ℕ) (v : Van) → Arrives rs q ks v → ⊥
 
--- best route: what is given back, and the lent list after it. On success the list's first entries are the route and the
--- remaining entries stay; a refusal leaves the list as it was
+-- best route: what is given back, and the lent list after it. Where there is no feasible walk the refusal is its reason: 10, 16
+-- or 17. On success the list's first entries are the route and the remaining entries stay; a refusal leaves the list as it was
 pub data Plans (ns rs : List ℕ) (q : PlanQuestion) (list : List ℕ) : PlanNumbers → List ℕ → Type 0 where
   refused : (r : Refusal) → planFault ns rs q list ≡ Refused r → Plans ns rs q list (planNumbers (planned.Refused r)) list
-  none : planFault ns rs q list ≡ Passed → NoWalk rs q → Plans ns rs q list (planNumbers (planned.Refused NoRoute)) list
+  none : (r : Refusal) → planFault ns rs q list ≡ Passed → NoWalk rs q
+      → Reason (draw (q .battery)) rs (q .source) (q .target) r
+      → Plans ns rs q list (planNumbers (planned.Refused r)) list
   route : (ks : List ℕ) (v : Van) → planFault ns rs q list ≡ Passed
       → Arrives rs q ks v → Once rs (q .source) ks → Most rs q (v .charge)
       → Plans ns rs q list (planNumbers (planned.Route (length ks) v)) (ks ++ drop (length ks) list)

@@ -15,8 +15,6 @@ use network::Refusal;
 use routes::Driven;
 use routes::Profiled;
 use search::Found;
-use search::Reading;
-use search::Sense;
 use search::Trip;
 
 // What a drive is asked for: battery size and start charge in mWh, and where it sets out.
@@ -216,18 +214,14 @@ fn plan(nodes: &[u8], roads: &[u8], question: PlanQuestion, van: Van, list: &mut
     requires { ⌜ PlanAsks (now nodes) (now roads) question van (now list) ⌝ }
     ensures { λ r. ⌜ Plans (now (nodes .entry)) (now (roads .entry)) question (now (list .entry)) (planNumbers r) (now (list .exit)) ⌝ }
 {
-    let reading = Reading {
-        sense: Sense::Forward,
-        battery: van.battery,
-    };
     let trip = Trip {
         source: question.source as usize,
         label: van.charge + 1,
         target: question.target as usize,
     };
-    let found = search::find(nodes, roads, reading, trip, list);
+    let found = search::find(nodes, roads, van.battery, trip, list);
     match found {
-        Found::Nowhere => Planned::Refused(Refusal::NoRoute),
+        Found::Nowhere(r) => Planned::Refused(r),
         Found::Roads(count) => drive_found(roads, &list[..count], trip.source, van),
     }
 }

@@ -29,6 +29,7 @@ fn main() {
     profiles::orders();
     plans::routes();
     plans::ends();
+    plans::reasons();
     plans::numbers();
     plans::files();
     plans::orders();

@@ -43,7 +43,7 @@ pub fn routes() {
     );
 }
 
-// Source = target, other batteries, no chain of roads, and lists at the limit.
+// Source = target, other batteries, and lists at the limit.
 pub fn ends() {
     hill_plan(
         b"best 1 to 1, start 0",
@@ -53,16 +53,6 @@ pub fn ends() {
     hill_plan(
         b"battery 1,100, best 0 to 3, start 900",
         plan_of(1100, 900, 0, 3),
-        &mut [7, 7, 7, 7, 7],
-    );
-    hill_plan(
-        b"battery 899, best 0 to 3, start 899",
-        plan_of(899, 899, 0, 3),
-        &mut [7, 7, 7, 7, 7],
-    );
-    hill_plan(
-        b"best 3 to 0, start 1,000",
-        plan_of(1000, 1000, 3, 0),
         &mut [7, 7, 7, 7, 7],
     );
     hill_plan(
@@ -80,6 +70,33 @@ pub fn ends() {
     hill_plan(
         b"best 1 to 2, start 1,000",
         plan_of(1000, 1000, 1, 2),
+        &mut [7, 7, 7, 7, 7],
+    );
+}
+
+// Why there is no route: a climb above the battery size, no chain of roads, a start one short of a
+// full battery, and two roads of 600, each of which alone could be driven.
+pub fn reasons() {
+    hill_plan(
+        b"battery 899, best 0 to 3, start 899",
+        plan_of(899, 899, 0, 3),
+        &mut [7, 7, 7, 7, 7],
+    );
+    hill_plan(
+        b"best 3 to 0, start 1,000",
+        plan_of(1000, 1000, 3, 0),
+        &mut [7, 7, 7, 7, 7],
+    );
+    hill_plan(
+        b"battery 900, best 2 to 3, start 899",
+        plan_of(900, 899, 2, 3),
+        &mut [7, 7, 7, 7, 7],
+    );
+    plan_row(
+        b"best by two roads of 600, start 1,000",
+        b"\x00\x00\x00\x00\x00\x00\x00\x00\x00\x00\x00\x00",
+        b"\x00\x00\x01\x00\x58\x02\x00\x00\x01\x00\x02\x00\x58\x02\x00\x00",
+        plan_of(1000, 1000, 0, 2),
         &mut [7, 7, 7, 7, 7],
     );
 }
@@ -199,7 +216,7 @@ pub fn orders() {
         &mut [7, 7],
     );
     plan_row(
-        b"best, faults 7 and 10",
+        b"best, faults 7 and 17",
         b"\x38\xff\xff\xff\x0c\xfe\xff\xff\x00\x00\x00\x00\x00\x00\x00\x00",
         b"\x00\x00\x09\x00\x05\x00\x00\x00",
         plan_of(1000, 900, 3, 0),

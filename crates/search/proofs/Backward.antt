@@ -17,16 +17,12 @@ use Rattle.network.specs.Walks.{roadsOf, Feasible}
 use Rattle.walks.proofs.Loops.{after-append}
 use Rattle.walks.proofs.Turned.{walk-turned}
 use Rattle.walks.specs.Label.{after, Best}
-use Rattle.search.specs.Reading.{stepForward, stepBackward, chargeOf, net}
-use Rattle.search.specs.declared.Reading.{Reading}
+use Rattle.search.specs.Reading.{forward, backward, stepForward, stepBackward, chargeOf, net}
 use Rattle.search.specs.declared.Sense.the-variants.{Forward, Backward}
-use Rattle.search.proofs.Forward.{forward, label, label-after}
+use Rattle.search.proofs.Forward.{label, label-after}
 use Rattle.search.proofs.Laws.{step-le, after-le}
 use Rattle.search.proofs.StepBackward.{backward-capped}
 use Rattle.search.proofs.StepForward.{forward-capped}
-
-abbrev pub backward : ℕ → Reading
-backward M = record { sense = Backward; battery = M }
 
 -- ---- one road
 
@@ -40,7 +36,7 @@ record SameMeeting (M f g f' g' : ℕ) : Type 0 where
 
 steps-meet : (M : ℕ) (r : Road) (f g : ℕ) → f ≤ M + 1 → g ≤ M + 1 → SameMeeting M f g (stepForward M r f) (stepBackward M r g)
 steps-meet M r zero g hf hg =
-    let b = step-le Backward M r g in
+    let b = step-le Backward M r g hg in
     record { to-tail = λ m. absurd (omega (arith, m .above)); to-head = λ m. absurd (omega (arith, m .above)) }
 steps-meet M r (suc f) zero hf hg =
     let b = forward-capped M r .some (suc f) (omega arith) in
@@ -88,7 +84,7 @@ walk-meets M rs (k ∷ ks) f g hf hg =
     let x = stepForward M r f in
     let y = back M rs ks g in
     let e = back-then M rs k ks g in
-    let rest = walk-meets M rs ks x g (omega (arith, step-le Forward M r f)) hg in
+    let rest = walk-meets M rs ks x g (step-le Forward M r f hf) hg in
     let one = steps-meet M r f y hf (back-le M rs ks g hg) in
     record {
       to-tail = λ m. subst (λ (z : ℕ). Meets M f z) (sym e) (one .to-tail (rest .to-tail m));
@@ -139,3 +135,8 @@ module _ (M : ℕ) (rs : List ℕ) (v depot : ℕ) where
   pub set-off : (x : ℕ) → Best (net (backward M) rs) depot (M + 1) v x → SetOff M rs v depot (chargeOf M x)
   set-off zero best = never (λ b e. omega (arith, enough-most 0 b best e, e .to-full))
   set-off (suc x) best = least (M - x) (most-enough x best) (λ b e. omega (arith, enough-most (suc x) b best e))
+
+-- where it is not −1
+pub charge-some : (M l : ℕ) → 0 < l → chargeOf M l ≡ pos (M + 1 - l)
+charge-some M zero h = absurd (omega arith)
+charge-some M (suc x) h = let e : M - x ≡ M + 1 - suc x = omega arith in ap pos e

@@ -5,12 +5,14 @@ use mathlib.Core.Logic.{_⊎_, inl, inr, _≢_}
 use Prim.Native.Nat.{ℕ, suc, _%_, _<_}
 use native.Mathlib.Decide.{ℕ-discrete}
 use native.Mathlib.Omega.{arith}
-use Rattle.frontier.specs.Frontier.{places, entry, keyAt, Put, Removes, Now}
+use Rattle.frontier.proofs.Empty.{emptied}
+use Rattle.frontier.specs.Frontier.{places, entry, keyAt, Put, Top, Removes, Now}
 use Rattle.network.specs.Files.{junctions}
 use Rattle.walks.specs.Label.{Best}
 use Rattle.search.specs.Reading.{psi, net}
 use Rattle.search.specs.State.{unsettled, Busy, Idle, Next}
-use Rattle.search.specs.Steps.{waiting, Underway, SpreadAsks, SpreadKeeps, ExploreAsks, Explored}
+use Rattle.search.specs.Searches.{ExploreAsks, Explored}
+use Rattle.search.specs.Steps.{waiting, Underway, SpreadAsks, SpreadKeeps}
 use Rattle.search.specs.declared.Reading.{Reading}
 use Rattle.search.specs.declared.Trip.{Trip}
 use Rattle.search.proofs.Finishing.{best-t, route-t, best-all, route-all}
@@ -57,7 +59,7 @@ module _ (rd : Reading) (ns rs chains : List ℕ) (trip : Trip) (labels₀ ways�
     removes =
         record {
           frontier = i .underway .queued .frontier;
-          within = omega (arith, inside, a .readable .few, i .underway .sized .long-queue);
+          within = omega (arith, inside, a .sets-out .readable .few, i .underway .sized .long-queue);
           placed = omega arith;
         }
 
@@ -80,7 +82,7 @@ module _ (rd : Reading) (ns rs chains : List ℕ) (trip : Trip) (labels₀ ways�
       pub spread-asks : SpreadAsks rd ns rs chains (top % places) labels ways queue₁ top₁
       spread-asks =
           record {
-            readable = a .readable;
+            readable = a .sets-out .readable;
             chained = a .chained;
             underway =
                 record {
@@ -94,22 +96,23 @@ module _ (rd : Reading) (ns rs chains : List ℕ) (trip : Trip) (labels₀ ways�
                   bounded = i .underway .bounded;
                   real = λ v h. real₁ v h (ℕ-discrete v (top % places));
                 };
-            within = omega (arith, inside, a .readable .few);
+            within = omega (arith, inside, a .sets-out .readable .few);
             some = labelled;
           }
 
       -- the target is settled
-      pub explored-target : top % places ≡ trip .target → Explored (net rd rs) (junctions ns) trip (entry labels) (entry ways)
+      pub explored-target : top % places ≡ trip .target → Explored (net rd rs) (junctions ns) trip labels ways queue₁
       explored-target e =
           let b =
           subst
           (λ (t : ℕ). Busy (net rd rs) (psi rd ns) (junctions ns) (trip .source) (trip .label) (suc (i .turns)) t
           (net rd rs .roads .count) (entry labels) (entry ways) (waiting queue₁)) e settled
           in
-          let l = laws rd ns rs (a .readable) in
+          let l = laws rd ns rs (a .sets-out .readable) in
           record {
             best = λ v d. best v d b;
             route = λ _. route-t _ _ l _ _ _ _ _ _ _ _ b;
+            emptied = λ z. absurd (omega (arith, b .settled .labelled));
           }
         where
           best : (v : ℕ) → (v ≡ trip .target) ⊎ (entry labels (trip .target) ≡ 0)
@@ -118,7 +121,7 @@ module _ (rd : Reading) (ns rs chains : List ℕ) (trip : Trip) (labels₀ ways�
               → Best (net rd rs) (trip .source) (trip .label) v (entry labels v)
           best v (inl q) b =
               subst (λ (t : ℕ). Best (net rd rs) (trip .source) (trip .label) t (entry labels t)) (sym q)
-              (best-t (net rd rs) (psi rd ns) (laws rd ns rs (a .readable)) (junctions ns) (trip .source) (trip .label) (suc (i .turns))
+              (best-t (net rd rs) (psi rd ns) (laws rd ns rs (a .sets-out .readable)) (junctions ns) (trip .source) (trip .label) (suc (i .turns))
               (entry labels) (entry ways) (waiting queue₁) (trip .target) b)
           best v (inr z) b = absurd (omega (arith, b .settled .labelled))
 
@@ -142,11 +145,12 @@ module _ (rd : Reading) (ns rs chains : List ℕ) (trip : Trip) (labels₀ ways�
   -- ---- none waits
 
   pub explored-all : (labels ways queue : List ℕ) (top : ℕ) → ExploreLoop rd ns rs trip labels ways queue top → top ≡ 0
-      → Explored (net rd rs) (junctions ns) trip (entry labels) (entry ways)
+      → Explored (net rd rs) (junctions ns) trip labels ways queue
   explored-all labels ways queue top i e =
-      let l = laws rd ns rs (a .readable) in
+      let l = laws rd ns rs (a .sets-out .readable) in
       let none : (v : ℕ) → waiting queue v ≡ 0 = λ v. omega (arith, i .underway .queued .best .most v) in
       record {
         best = λ v _. best-all _ _ l _ _ _ _ _ _ _ (i .idle) none v;
         route = route-all _ _ l _ _ _ _ _ _ _ (i .idle) none (trip .target);
+        emptied = λ _. emptied (i .underway .queued .frontier) (subst (Top queue) e (i .underway .queued .best));
       }

@@ -1,106 +1,66 @@
--- A search in lists that are all 0 at first, the labels that it leaves and the route that it writes. Assumes nothing.
+-- The route that a search writes, or the reason why there is none. Assumes nothing.
 use mathlib.Core.Path.{_≡_, refl, sym, subst}
 use mathlib.Core.List.{List, _++_}
-use mathlib.Core.Logic.{inl, inr}
-use Prim.Native.Nat.{ℕ, _+_, _<_}
+use mathlib.Core.Logic.{inl}
+use Prim.Native.Nat.{ℕ, _<_}
 use native.Mathlib.Omega.{arith}
-use lib.ListN.{length, drop, replicate, length-replicate, List·getD-eq-default}
-use Rattle.frontier.proofs.Empty.{zeros}
-use Rattle.frontier.specs.Frontier.{keysFrom, entry}
-use Rattle.network.specs.Files.{junctions, roadCount, mostJunctions, mostRoads}
-use Rattle.walks.specs.Label.{Net, Best}
-use Rattle.search.specs.Chains.{Chained, ChainAsks}
-use Rattle.search.specs.Found.{Finds, nowhere, route, Labels}
-use Rattle.search.specs.Reading.{net}
-use Rattle.search.specs.Steps.{Readable, ExploreAsks, Explored, FindAsks, LabelAsks}
+use lib.ListN.{length, drop}
+use Rattle.frontier.specs.Frontier.{entry}
+use Rattle.network.specs.Files.{junctions, mostJunctions}
+use Rattle.network.specs.Reasons.{Reason}
+use Rattle.network.specs.declared.Refusal.{Refusal}
+use Rattle.search.specs.Found.{BestOf, Finds, nowhere, route}
+use Rattle.search.specs.Reading.{forward, net}
+use Rattle.search.specs.Searches.{Explored, Lent, FindAsks, ReasonAsks}
 use Rattle.search.specs.Trails.{Route, TrailOf, Trailed, WriteAsks, Counted, Written}
 use Rattle.search.specs.declared.Found.the-variants.{Nowhere, Roads}
-use Rattle.search.specs.declared.Reading.{Reading}
 use Rattle.search.specs.declared.Trip.{Trip}
-use Rattle.search.proofs.Laws.{tails-in, count-is}
 use Rattle.search.proofs.Trailing.{trail-wider}
 
-module _ (rd : Reading) (ns rs : List ℕ) (a : Readable rd ns rs) where
-  pub chain-asks : ChainAsks (net rd rs .roads) (replicate (mostJunctions + mostRoads) 0)
-  chain-asks =
-      record {
-        few = omega (arith, count-is rd rs, a .few-roads);
-        within = λ k h. omega (arith, tails-in rd ns rs a k (omega (arith, count-is rd rs)), a .few);
-        long = length-replicate {A = ℕ} (mostJunctions + mostRoads) 0;
-        empty = λ v h. zeros (mostJunctions + mostRoads) v;
-      }
+module _ (M : ℕ) (ns rs : List ℕ) (trip : Trip) (list : List ℕ) (a : FindAsks M ns rs trip list)
+    (labels ways queue : List ℕ) (e : Explored (net (forward M) rs) (junctions ns) trip labels ways queue) where
+  best : BestOf M rs trip (entry labels (trip .target))
+  best = e .best (trip .target) (inl refl)
 
-module _ (rd : Reading) (ns rs : List ℕ) (trip : Trip) where
-  pub explore-asks : (labels chains : List ℕ) → LabelAsks rd ns rs (trip .source) (trip .label) labels
-      → Chained (net rd rs .roads) (roadCount rs) chains
-      → ExploreAsks rd ns rs chains trip labels (replicate mostJunctions 0) (replicate (keysFrom + mostJunctions) 0)
-  explore-asks labels chains a c =
-      record {
-        readable = a .readable;
-        chained = c;
-        sized =
-            record {
-              long-labels = a .long;
-              long-ways = length-replicate {A = ℕ} mostJunctions 0;
-              long-queue = length-replicate {A = ℕ} (keysFrom + mostJunctions) 0;
-            };
-        no-label = a .no-label;
-        no-key = zeros (keysFrom + mostJunctions);
-        source-in = a .source-in;
-        some = a .some;
-        label-le = a .label-le;
-      }
+  -- nothing waits, so that the lists serve for another search
+  module _ (none : entry labels (trip .target) ≡ 0) where
+    pub reason-asks : (chains : List ℕ) → Lent chains labels ways queue → ReasonAsks M ns rs trip chains labels ways queue
+    reason-asks chains lent =
+        record {
+          readable = a .sets-out .readable;
+          source-in = a .sets-out .source-in;
+          target-in = a .target-in;
+          lent = lent;
+          no-key = e .emptied none;
+        }
 
--- where no junction is the target, every label is the best
-pub labels-all : (N : Net) (n : ℕ) (trip : Trip) (labels : List ℕ) (W : ℕ → ℕ) → length labels ≡ mostJunctions
-    → trip .target ≡ mostJunctions → Explored N n trip (entry labels) W → Labels N (trip .source) (trip .label) labels
-labels-all N n trip labels W long t e =
-    record { long = long; best = λ v. e .best v (inr (List·getD-eq-default labels 0 (omega arith))) }
+    pub finds-nowhere : {r : Refusal} → Reason M rs (trip .source) (trip .target) r → Finds M ns rs trip list (Nowhere r) list
+    finds-nowhere reason = nowhere (subst (BestOf M rs trip) none best) reason
 
-module _ (rd : Reading) (ns rs : List ℕ) (trip : Trip) (list : List ℕ) (a : FindAsks rd ns rs trip list) where
-  pub label-asks : LabelAsks rd ns rs (trip .source) (trip .label) (replicate mostJunctions 0)
-  label-asks =
-      record {
-        readable = a .readable;
-        source-in = a .source-in;
-        some = a .some;
-        label-le = a .label-le;
-        long = length-replicate {A = ℕ} mostJunctions 0;
-        no-label = zeros mostJunctions;
-      }
+  module _ (long : length ways ≡ mostJunctions) (some : 0 < entry labels (trip .target)) where
+    found : Route (net (forward M) rs) (entry ways) (junctions ns) (trip .source) (trip .label) (trip .target) (entry labels (trip .target))
+    found = e .route some
 
-  module _ (labels ways : List ℕ) (e : Explored (net rd rs) (junctions ns) trip (entry labels) (entry ways)) where
-    pub finds-nowhere : entry labels (trip .target) ≡ 0
-        → Finds (net rd rs) (junctions ns) (trip .source) (trip .label) (trip .target) list Nowhere list
-    finds-nowhere z =
-        nowhere
-        (subst (λ (x : ℕ). Best (net rd rs) (trip .source) (trip .label) (trip .target) x) z (e .best (trip .target) (inl refl)))
+    trail : TrailOf (net (forward M) rs .roads) ways (trip .source) (trip .target) (found .by)
+    trail = trail-wider (omega (arith, a .sets-out .readable .few)) (found .trail)
 
-    module _ (long : length ways ≡ mostJunctions) (some : 0 < entry labels (trip .target)) where
-      found : Route (net rd rs) (entry ways) (junctions ns) (trip .source) (trip .label) (trip .target) (entry labels (trip .target))
-      found = e .route some
+    pub trailed : Trailed (net (forward M) rs .roads) ways (trip .source) (trip .target)
+    trailed = record { by = found .by; trail = trail; few = omega (arith, found .few, a .sets-out .readable .few) }
 
-      trail : TrailOf (net rd rs .roads) ways (trip .source) (trip .target) (found .by)
-      trail = trail-wider (omega (arith, a .readable .few)) (found .trail)
+    pub write-asks : (count : ℕ) → Counted (net (forward M) rs .roads) ways (trip .source) (trip .target) count
+        → WriteAsks (net (forward M) rs .roads) ways (trip .source) (trip .target) count list
+    unfolding trailed
+    write-asks count c =
+        let p : count ≡ length (found .by) = c (found .by) trail in
+        record { trailed = trailed; count-is = p; fits = omega (arith, found .few, a .room) }
 
-      pub trailed : Trailed (net rd rs .roads) ways (trip .source) (trip .target)
-      trailed = record { by = found .by; trail = trail; few = omega (arith, found .few, a .readable .few) }
+    finds : Finds M ns rs trip list (Roads (length (found .by)))
+        (found .by ++ drop (length (found .by)) list)
+    finds =
+        route (found .by) (found .few) (found .walk) (found .once) (omega (arith, found .brings))
+        (subst (BestOf M rs trip) (sym (found .brings)) best)
 
-      pub write-asks : (count : ℕ) → Counted (net rd rs .roads) ways (trip .source) (trip .target) count
-          → WriteAsks (net rd rs .roads) ways (trip .source) (trip .target) count list
-      unfolding trailed
-      write-asks count c =
-          let p : count ≡ length (found .by) = c (found .by) trail in
-          record { trailed = trailed; count-is = p; fits = omega (arith, found .few, a .room) }
-
-      finds : Finds (net rd rs) (junctions ns) (trip .source) (trip .label) (trip .target) list (Roads (length (found .by)))
-          (found .by ++ drop (length (found .by)) list)
-      finds =
-          route (found .by) (found .few) (found .walk) (found .once) (omega (arith, found .brings))
-          (subst (λ (x : ℕ). Best (net rd rs) (trip .source) (trip .label) (trip .target) x) (sym (found .brings))
-          (e .best (trip .target) (inl refl)))
-
-      pub finds-route : (count : ℕ) (list' : List ℕ) → Counted (net rd rs .roads) ways (trip .source) (trip .target) count
-          → Written (net rd rs .roads) ways (trip .source) (trip .target) list list'
-          → Finds (net rd rs) (junctions ns) (trip .source) (trip .label) (trip .target) list (Roads count) list'
-      finds-route count list' c w = rw (c (found .by) trail, w (found .by) trail) finds
+    pub finds-route : (count : ℕ) (list' : List ℕ) → Counted (net (forward M) rs .roads) ways (trip .source) (trip .target) count
+        → Written (net (forward M) rs .roads) ways (trip .source) (trip .target) list list'
+        → Finds M ns rs trip list (Roads count) list'
+    finds-route count list' c w = rw (c (found .by) trail, w (found .by) trail) finds

@@ -13,12 +13,7 @@ use Rattle.battery.specs.declared.Van.{Van}
 use Rattle.network.specs.Walks.{roadsOf}
 use Rattle.network.specs.Files.{roadOf}
 use Rattle.walks.specs.Label.{after}
-use Rattle.search.specs.Reading.{labelIf, stepForward, net}
-use Rattle.search.specs.declared.Reading.{Reading}
-use Rattle.search.specs.declared.Sense.the-variants.{Forward}
-
-abbrev pub forward : ℕ → Reading
-forward M = record { sense = Forward; battery = M }
+use Rattle.search.specs.Reading.{forward, labelIf, stepForward, net}
 
 abbrev pub label : Drove → ℕ
 label (On v) = suc (v .charge)

@@ -20,4 +20,8 @@ mod Writing
 mod Spreading
 mod Exploring
 mod Starting
+mod Clearing
+mod Seeking
+mod Joining
+mod Reasoning
 mod Finding

@@ -10,7 +10,8 @@ use Rattle.frontier.proofs.Stores.{put-of}
 use Rattle.frontier.specs.Frontier.{places, keysFrom, entry, keyAt, Put, Raises, Now}
 use Rattle.network.specs.Files.{junctions}
 use Rattle.search.specs.Reading.{psi, net}
-use Rattle.search.specs.Steps.{waiting, packed, KeyAsks, ExploreAsks}
+use Rattle.search.specs.Searches.{ExploreAsks}
+use Rattle.search.specs.Steps.{waiting, packed, KeyAsks}
 use Rattle.search.specs.declared.Reading.{Reading}
 use Rattle.search.specs.declared.Trip.{Trip}
 use Rattle.search.proofs.Exploring.{ExploreLoop}
@@ -20,7 +21,7 @@ use Rattle.search.proofs.Beginning.{begin}
 module _ (rd : Reading) (ns rs chains : List ℕ) (trip : Trip) (labels₀ ways₀ queue₀ : List ℕ)
     (a : ExploreAsks rd ns rs chains trip labels₀ ways₀ queue₀) where
   pub source-asks : KeyAsks ns (trip .source)
-  source-asks = record { within = a .source-in; few = a .readable .few }
+  source-asks = record { within = a .sets-out .source-in; few = a .sets-out .readable .few }
 
   whole : length queue₀ % 8 ≡ 0
   whole = ap (λ (n : ℕ). n % 8) (a .sized .long-queue)
@@ -31,11 +32,11 @@ module _ (rd : Reading) (ns rs chains : List ℕ) (trip : Trip) (labels₀ ways�
       record {
         frontier = empty queue₀ (a .no-key) (omega (arith, a .sized .long-queue)) whole;
         best = empty-top queue₀ (a .no-key);
-        within = omega (arith, a .source-in, a .readable .few, a .sized .long-queue);
+        within = omega (arith, a .sets-out .source-in, a .sets-out .readable .few, a .sized .long-queue);
         key-small = small;
         tells =
             λ _. ap (λ (n : ℕ). n % places) e
-            ∙ packed-tells _ (trip .source) (omega (arith, a .source-in, a .readable .few));
+            ∙ packed-tells _ (trip .source) (omega (arith, a .sets-out .source-in, a .sets-out .readable .few));
       }
 
   module _ (key : ℕ) (key-is : key ≡ packed (trip .label + psi rd ns (trip .source)) (trip .source)) (queue : List ℕ) (top : ℕ)
@@ -45,17 +46,17 @@ module _ (rd : Reading) (ns rs chains : List ℕ) (trip : Trip) (labels₀ ways�
 
     put-label : Put (entry labels₀) (entry labels) (trip .source) (trip .label)
     unfolding labels
-    put-label = put-of labels₀ (omega (arith, a .source-in, a .readable .few, a .sized .long-labels)) refl
+    put-label = put-of labels₀ (omega (arith, a .sets-out .source-in, a .sets-out .readable .few, a .sized .long-labels)) refl
 
     put-key : Put (waiting queue₀) (waiting queue) (trip .source) (trip .label + psi rd ns (trip .source))
-    put-key = put-waiting queue₀ queue (n .put) (omega (arith, a .no-key (keysFrom + trip .source), key-is, a .source-in, a .readable .few))
+    put-key = put-waiting queue₀ queue (n .put) (omega (arith, a .no-key (keysFrom + trip .source), key-is, a .sets-out .source-in, a .sets-out .readable .few))
 
     bounded : (v : ℕ) → Dec (v ≡ trip .source) → entry labels v ≤ rd .battery + 1
-    bounded v (yes e) = omega (arith, ap (entry labels) e, put-label .here, a .label-le)
+    bounded v (yes e) = omega (arith, ap (entry labels) e, put-label .here, a .sets-out .label-le)
     bounded v (no e) = omega (arith, put-label .rest v e, a .no-label v)
 
     real : (v : ℕ) → 0 < keyAt queue v → Dec (v ≡ trip .source) → 0 < waiting queue v
-    real v h (yes e) = omega (arith, ap (waiting queue) e, put-key .here, a .some)
+    real v h (yes e) = omega (arith, ap (waiting queue) e, put-key .here, a .sets-out .some)
     real v h (no e) = absurd (omega (arith, n .put .rest v e, a .no-key (keysFrom + v)))
 
     pub explore-start : ExploreLoop rd ns rs trip (set labels₀ (trip .source) (trip .label)) ways₀ queue top
@@ -78,5 +79,5 @@ module _ (rd : Reading) (ns rs chains : List ℕ) (trip : Trip) (labels₀ ways�
           idle =
               begin (net rd rs) (psi rd ns) (junctions ns) (trip .source) (trip .label) (entry labels₀) (entry ways₀) (waiting queue₀)
               (entry labels) (waiting queue) (a .no-label) (λ v. ap (λ (y : ℕ). y / places) (a .no-key (keysFrom + v)))
-              put-label put-key (a .some) (a .source-in);
+              put-label put-key (a .sets-out .some) (a .sets-out .source-in);
         }

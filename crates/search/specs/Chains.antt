@@ -15,6 +15,10 @@ lastOf chains v = entry chains v
 abbrev pub previousOf : List ℕ → ℕ → ℕ
 previousOf chains k = entry chains (mostJunctions + k)
 
+-- no road is on a chain
+abbrev pub Unchained : List ℕ → Type 0
+Unchained chains = (v : ℕ) → v < mostJunctions → lastOf chains v ≡ 0
+
 -- p is the last road below k that is entered at v, plus one, or 0
 pub record Link (R : Roads) (v p k : ℕ) : Type 0 where
   pub low : p ≤ k
@@ -32,4 +36,4 @@ pub record ChainAsks (R : Roads) (chains : List ℕ) : Type 0 where
   pub few : R .count ≤ mostRoads
   pub within : (k : ℕ) → k < R .count → R .tail k < mostJunctions
   pub long : length chains ≡ mostJunctions + mostRoads
-  pub empty : (v : ℕ) → v < mostJunctions → lastOf chains v ≡ 0
+  pub empty : Unchained chains

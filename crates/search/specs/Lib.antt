@@ -4,3 +4,4 @@ pub mod State
 pub mod Trails
 pub mod Chains
 pub mod Steps
+pub mod Searches

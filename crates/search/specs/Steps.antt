@@ -2,7 +2,6 @@
 use mathlib.Core.Path.{_≡_}
 use mathlib.Core.Bool.{Bool, true, false}
 use mathlib.Core.List.{List}
-use mathlib.Core.Logic.{_⊎_}
 use Prim.Native.Nat.{ℕ, _+_, _*_, _/_, _%_, _^_, _≤_, _<_, max}
 use lib.Dec.{ltb}
 use lib.ListN.{length}
@@ -13,18 +12,16 @@ use Rattle.frontier.specs.Frontier.{places, keysFrom, entry, keyAt, Put, Fronti
 use Rattle.network.specs.Check.{recordsFault}
 use Rattle.network.specs.Files.{junctions, roadCount, mostJunctions, mostRoads}
 use Rattle.network.specs.declared.Checked.the-variants.{Passed}
-use Rattle.walks.specs.Label.{Net, Best}
+use Rattle.walks.specs.Label.{Net}
 use Rattle.search.specs.Chains.{Chained}
 use Rattle.search.specs.Reading.{psi, net}
 use Rattle.search.specs.State.{Busy}
-use Rattle.search.specs.Trails.{Route}
 use Rattle.search.specs.declared.Offer.{Offer}
 use Rattle.search.specs.declared.Reading.{Reading}
-use Rattle.search.specs.declared.Trip.{Trip}
 
 -- the files have passed the network check, and the battery size is in range
-pub record Readable (rd : Reading) (ns rs : List ℕ) : Type 0 where
-  pub battery-le : rd .battery ≤ mostBattery
+pub record Readable (M : ℕ) (ns rs : List ℕ) : Type 0 where
+  pub battery-le : M ≤ mostBattery
   pub few : junctions ns ≤ mostJunctions
   pub few-roads : roadCount rs ≤ mostRoads
   pub checked : recordsFault ns rs ≡ Passed
@@ -100,7 +97,7 @@ pub record Offered (labels ways queue : List ℕ) (v : ℕ) (o : Offer) (labels'
 -- ---- a road relaxed, from a label where it is entered
 
 pub record RelaxAsks (rd : Reading) (ns rs : List ℕ) (k label : ℕ) (labels ways queue : List ℕ) (top : ℕ) : Type 0 where
-  pub readable : Readable rd ns rs
+  pub readable : Readable (rd .battery) ns rs
   pub underway : Underway rd labels ways queue top
   pub road : k < roadCount rs
   pub some : 0 < label
@@ -119,7 +116,7 @@ pub record RelaxKeeps (rd : Reading) (ns rs : List ℕ) (k label : ℕ) (labels 
 -- ---- all roads that are entered at u
 
 pub record SpreadAsks (rd : Reading) (ns rs chains : List ℕ) (u : ℕ) (labels ways queue : List ℕ) (top : ℕ) : Type 0 where
-  pub readable : Readable rd ns rs
+  pub readable : Readable (rd .battery) ns rs
   pub chained : Chained (net rd rs .roads) (roadCount rs) chains
   pub underway : Underway rd labels ways queue top
   pub within : u < mostJunctions
@@ -138,38 +135,3 @@ pub record SpreadKeeps (rd : Reading) (ns rs : List ℕ) (u : ℕ) (labels ways 
     (top : ℕ) : Type 0 where
   pub underway : Underway rd labels' ways' queue' top
   pub spreads : Spreads rd ns rs u (roadCount rs) 0 labels ways queue labels' ways' queue'
-
--- ---- the whole search
-
-pub record ExploreAsks (rd : Reading) (ns rs chains : List ℕ) (trip : Trip) (labels ways queue : List ℕ) : Type 0 where
-  pub readable : Readable rd ns rs
-  pub chained : Chained (net rd rs .roads) (roadCount rs) chains
-  pub sized : Sized labels ways queue
-  pub no-label : (v : ℕ) → entry labels v ≡ 0
-  pub no-key : (i : ℕ) → entry queue i ≡ 0
-  pub source-in : trip .source < junctions ns
-  pub some : 0 < trip .label
-  pub label-le : trip .label ≤ rd .battery + 1
-
--- the target's label is the best, and where it has none the search was not stopped and every label is the best
-pub record Explored (N : Net) (n : ℕ) (trip : Trip) (L W : ℕ → ℕ) : Type 0 where
-  pub best : (v : ℕ) → (v ≡ trip .target) ⊎ (L (trip .target) ≡ 0) → Best N (trip .source) (trip .label) v (L v)
-  pub route : 0 < L (trip .target) → Route N W n (trip .source) (trip .label) (trip .target) (L (trip .target))
-
-pub record FindAsks (rd : Reading) (ns rs : List ℕ) (trip : Trip) (list : List ℕ) : Type 0 where
-  pub readable : Readable rd ns rs
-  pub source-in : trip .source < junctions ns
-  pub target-in : trip .target < junctions ns
-  pub some : 0 < trip .label
-  pub label-le : trip .label ≤ rd .battery + 1
-  pub room : junctions ns ≤ length list + 1
-
--- ---- the label of every junction
-
-pub record LabelAsks (rd : Reading) (ns rs : List ℕ) (source label : ℕ) (labels : List ℕ) : Type 0 where
-  pub readable : Readable rd ns rs
-  pub source-in : source < junctions ns
-  pub some : 0 < label
-  pub label-le : label ≤ rd .battery + 1
-  pub long : length labels ≡ mostJunctions
-  pub no-label : (v : ℕ) → entry labels v ≡ 0

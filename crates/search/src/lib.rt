@@ -2,21 +2,27 @@
 // plus one, and 0 is none.
 ghost use mathlib.Core.Path.{_≡_};
 ghost use Prim.Native.Nat.{_+_, _^_, _<_, min};
-ghost use Rattle.frontier.specs.Frontier.{entry};
+ghost use Rattle.frontier.specs.Frontier.{AllZero};
 ghost use Rattle.network.specs.Files.{junctions, roadCount};
-ghost use Rattle.search.specs.Chains.{Chained, ChainAsks};
+ghost use Rattle.network.specs.Reasons.{Reason};
+ghost use Rattle.walks.specs.Label.{Best};
+ghost use Rattle.search.specs.Chains.{Unchained, Chained, ChainAsks};
 ghost use Rattle.search.specs.Found.{Finds, Labels};
 ghost use Rattle.search.specs.Reading.{entered, left, stepForward, stepBackward, stepOf, psiForward, psiBackward, psiOf, psi, net};
-ghost use Rattle.search.specs.Steps.{StepAsks, better, packed, KeyAsks, OfferAsks, Offered, RelaxAsks, RelaxKeeps, SpreadAsks, SpreadKeeps, ExploreAsks, Explored, FindAsks, LabelAsks};
+ghost use Rattle.search.specs.Steps.{StepAsks, better, packed, KeyAsks, OfferAsks, Offered, RelaxAsks, RelaxKeeps, SpreadAsks, SpreadKeeps};
+ghost use Rattle.search.specs.Searches.{ExploreAsks, Explored, SeekAsks, ClearAsks, AgainAsks, FindAsks, ReasonAsks, LabelAsks};
 ghost use Rattle.search.specs.Trails.{Trailed, Counted, WriteAsks, Written};
 use battery::Road;
+use network::Refusal;
 
 // In which sense roads are read: forward, from tail to head, a label being the charge that a van
-// has, plus one; or backward, from head to tail, a label being the slack, which is the battery size
-// less the charge that a van needs, plus one.
+// has, plus one; backward, from head to tail, a label being the slack, which is the battery size less
+// the charge that a van needs, plus one; or joining, from head to tail, where a road takes nothing
+// and every label is the first one.
 pub enum Sense {
     Forward,
     Backward,
+    Joining,
 }
 
 // How roads are read.
@@ -33,10 +39,10 @@ pub struct Trip {
     pub target: usize,
 }
 
-// What comes of it: how many roads the route has, or that there is none.
+// What comes of it: how many roads the route has, or why there is none.
 pub enum Found {
     Roads(usize),
-    Nowhere,
+    Nowhere(Refusal),
 }
 
 // What a road brings: its number, the label and the key.
@@ -52,29 +58,43 @@ const QUEUE: usize = frontier::KEYS + network::MOST_JUNCTIONS;
 
 const CHAINS: usize = network::MOST_JUNCTIONS + network::MOST_ROADS;
 
-// The best route from the trip's source to its target, written at the front of the list.
-pub fn find(nodes: &[u8], roads: &[u8], reading: Reading, trip: Trip, list: &mut [u16]) -> Found
-    requires { ⌜ FindAsks reading (now nodes) (now roads) trip (now list) ⌝ }
-    ensures { λ r. ⌜ Finds (net reading (now (roads .entry))) (junctions (now (nodes .entry))) (trip .source) (trip .label) (trip .target) (now (list .entry)) r (now (list .exit)) ⌝ }
+// The best route from the trip's source to its target, written at the front of the list; or why there
+// is none. All searches share one set of lists.
+pub fn find(nodes: &[u8], roads: &[u8], battery: u32, trip: Trip, list: &mut [u16]) -> Found
+    requires { ⌜ FindAsks battery (now nodes) (now roads) trip (now list) ⌝ }
+    ensures { λ r. ⌜ Finds battery (now (nodes .entry)) (now (roads .entry)) trip (now (list .entry)) r (now (list .exit)) ⌝ }
 {
     let mut chains = [0u16; CHAINS];
     let mut labels = [0u32; network::MOST_JUNCTIONS];
     let mut ways = [0u16; network::MOST_JUNCTIONS];
     let mut queue = [0u64; QUEUE];
-    chain(roads, reading, &mut chains);
-    explore(
+    let reading = Reading {
+        sense: Sense::Forward,
+        battery,
+    };
+    seek(
         nodes,
         roads,
         reading,
-        &chains,
         trip,
+        &mut chains,
         &mut labels,
         &mut ways,
         &mut queue,
     );
     let target = trip.target;
     if labels[target] == 0 {
-        return Found::Nowhere;
+        let reason = reason(
+            nodes,
+            roads,
+            battery,
+            trip,
+            &mut chains,
+            &mut labels,
+            &mut ways,
+            &mut queue,
+        );
+        return Found::Nowhere(reason);
     }
     let count = count_back(roads, reading, &ways, trip.source, target);
     write_back(roads, reading, &ways, trip.source, target, count, list);
@@ -97,22 +117,114 @@ pub fn label_all(
     let mut chains = [0u16; CHAINS];
     let mut ways = [0u16; network::MOST_JUNCTIONS];
     let mut queue = [0u64; QUEUE];
-    chain(roads, reading, &mut chains);
     let trip = Trip {
         source,
         label,
         target: network::MOST_JUNCTIONS,
     };
-    explore(
+    seek(
         nodes,
         roads,
         reading,
-        &chains,
         trip,
+        &mut chains,
         labels,
         &mut ways,
         &mut queue,
     );
+}
+
+// Why no walk of the trip is feasible. Two searches back from its target: one for the least charge to
+// set off with; where no charge does, one for a chain of roads.
+fn reason(
+    nodes: &[u8],
+    roads: &[u8],
+    battery: u32,
+    trip: Trip,
+    chains: &mut [u16],
+    labels: &mut [u32],
+    ways: &mut [u16],
+    queue: &mut [u64],
+) -> Refusal
+    requires { ⌜ ReasonAsks battery (now nodes) (now roads) trip (now chains) (now labels) (now ways) (now queue) ⌝ }
+    ensures { λ r. ⌜ Reason battery (now (roads .entry)) (trip .source) (trip .target) r ⌝ }
+{
+    let back = Trip {
+        source: trip.target,
+        label: battery + 1,
+        target: trip.source,
+    };
+    let backward = Reading {
+        sense: Sense::Backward,
+        battery,
+    };
+    let slack = seek_again(nodes, roads, backward, back, chains, labels, ways, queue);
+    if 0 < slack {
+        return Refusal::MoreCharge(battery + 1 - slack);
+    }
+    let joining = Reading {
+        sense: Sense::Joining,
+        battery,
+    };
+    let joined = seek_again(nodes, roads, joining, back, chains, labels, ways, queue);
+    if 0 < joined {
+        Refusal::NeverEnough
+    } else {
+        Refusal::NotJoined
+    }
+}
+
+// Another search, in the lists of one after which nothing waits: the best label of the target.
+fn seek_again(
+    nodes: &[u8],
+    roads: &[u8],
+    reading: Reading,
+    trip: Trip,
+    chains: &mut [u16],
+    labels: &mut [u32],
+    ways: &mut [u16],
+    queue: &mut [u64],
+) -> u32
+    requires { ⌜ AgainAsks reading (now nodes) (now roads) trip (now chains) (now labels) (now ways) (now queue) ⌝ }
+    ensures { λ r. ⌜ Best (net reading (now (roads .entry))) (trip .source) (trip .label) (trip .target) r ⌝ }
+    ensures { λ r. ⌜ (r ≡ 0 → AllZero (now (queue .exit))) ⌝ }
+{
+    clear(chains, labels);
+    seek(nodes, roads, reading, trip, chains, labels, ways, queue);
+    let target = trip.target;
+    labels[target]
+}
+
+// Takes every road off its chain and every label away.
+fn clear(chains: &mut [u16], labels: &mut [u32])
+    requires { ⌜ ClearAsks (now chains) (now labels) ⌝ }
+    ensures { λ _. ⌜ Unchained (now (chains .exit)) ⌝ }
+    ensures { λ _. ⌜ AllZero (now (labels .exit)) ⌝ }
+{
+    let mut v = 0;
+    while v < network::MOST_JUNCTIONS {
+        chains[v] = 0;
+        labels[v] = 0;
+        v += 1;
+    }
+}
+
+// One search, in lists with no road on a chain, no label and no key.
+fn seek(
+    nodes: &[u8],
+    roads: &[u8],
+    reading: Reading,
+    trip: Trip,
+    chains: &mut [u16],
+    labels: &mut [u32],
+    ways: &mut [u16],
+    queue: &mut [u64],
+)
+    requires { ⌜ SeekAsks reading (now nodes) (now roads) trip (now chains) (now labels) (now ways) (now queue) ⌝ }
+    ensures { λ _. ⌜ Explored (net reading (now (roads .entry))) (junctions (now (nodes .entry))) trip (now (labels .exit)) (now (ways .exit)) (now (queue .exit)) ⌝ }
+{
+    chain(roads, reading, chains);
+    explore(nodes, roads, reading, chains, trip, labels, ways, queue);
 }
 
 // Chains the roads: for each junction the last road entered there, for each road the previous one
@@ -144,7 +256,7 @@ pub fn explore(
     queue: &mut [u64],
 )
     requires { ⌜ ExploreAsks reading (now nodes) (now roads) (now chains) trip (now labels) (now ways) (now queue) ⌝ }
-    ensures { λ _. ⌜ Explored (net reading (now (roads .entry))) (junctions (now (nodes .entry))) trip (entry (now (labels .exit))) (entry (now (ways .exit))) ⌝ }
+    ensures { λ _. ⌜ Explored (net reading (now (roads .entry))) (junctions (now (nodes .entry))) trip (now (labels .exit)) (now (ways .exit)) (now (queue .exit)) ⌝ }
 {
     let source = trip.source;
     labels[source] = trip.label;
@@ -309,6 +421,7 @@ impl Reading {
         match sense {
             Sense::Forward => road.tail as usize,
             Sense::Backward => road.head as usize,
+            Sense::Joining => road.head as usize,
         }
     }
 
@@ -320,6 +433,7 @@ impl Reading {
         match sense {
             Sense::Forward => road.head as usize,
             Sense::Backward => road.tail as usize,
+            Sense::Joining => road.tail as usize,
         }
     }
 
@@ -332,6 +446,7 @@ impl Reading {
         match sense {
             Sense::Forward => step_forward(self.battery, road, label),
             Sense::Backward => step_backward(self.battery, road, label),
+            Sense::Joining => label,
         }
     }
 
@@ -343,6 +458,7 @@ impl Reading {
         match sense {
             Sense::Forward => below_most(potential),
             Sense::Backward => above_least(potential),
+            Sense::Joining => 0,
         }
     }
 }

@@ -5,7 +5,7 @@ use borrow.Author.Needs.{needs}
 use mir.Facts.{toZ-pos}
 use mir.Syntax.{w32}
 use Rattle.search.specs.Reading.{chargeOf}
-use Rattle.depot.proofs.Filling.{charge-some}
+use Rattle.search.proofs.Backward.{charge-some}
 use Rattle.depot.proofs.charge_of.Statement.{statement}
 use Rattle.depot.proofs.charge_of.Tie as tie
 

@@ -1,14 +1,13 @@
 -- `planner::plan` meets its contract. `looked` is where the search is done, `start` where the function begins; the search
 -- leaves the list, its fifth argument. Assumes nothing.
 use mathlib.Core.Path.{sym, ap, subst}
-use Prim.Native.Nat.{_+_, _≤_}
+use Prim.Native.Nat.{_≤_}
 use native.Mathlib.Omega.{arith}
 use borrow.Author.Needs.{needs}
 use lib.ListN.{length, take}
 use lib.Seq.{length-take-le}
 use Rattle.battery.specs.declared.Van.{Van}
-use Rattle.search.proofs.Forward.{forward}
-use Rattle.search.specs.Steps.{FindAsks}
+use Rattle.search.specs.Searches.{FindAsks}
 use Rattle.search.specs.declared.Found.{Found}
 use Rattle.planner.specs.Order.{planVan}
 use Rattle.planner.specs.Planning.{FoundAsks, FoundKeeps}
@@ -17,8 +16,8 @@ use Rattle.planner.proofs.Searching.{tripFor, FindsFor, find-asks, plan
 use Rattle.planner.proofs.plan.Statement.{statement}
 use Rattle.planner.proofs.plan.Tie as tie
 
-add-t12 : tie.Need-add-t12
-add-t12 c =
+add-t11 : tie.Need-add-t11
+add-t11 c =
     let start = c .before .before .before .before in
     let q = start .args .question in
     let d = plan-cleared _ _ _ _ (start .pre .passed) in
@@ -29,7 +28,7 @@ find-requires : tie.Need-find-requires
 find-requires c κs =
     let start = c .before .before .before .before .before in
     let a = start .args in
-    subst (λ (v : Van). FindAsks (forward (v .battery)) (a .nodes .now) (a .roads .now) (tripFor (a .question) v) (a .list .now))
+    subst (λ (v : Van). FindAsks (v .battery) (a .nodes .now) (a .roads .now) (tripFor (a .question) v) (a .list .now))
     (sym (start .pre .van-is)) (find-asks _ _ _ _ (plan-cleared _ _ _ _ (start .pre .passed)))
 
 -- what the search found, of the van that sets out
@@ -47,29 +46,29 @@ found looked =
 -- no route
 returns : tie.Need-returns
 returns c =
-    let looked = c .before .before .before .before in
+    let looked = c .before .before .before .before .before in
     let start = looked .before .before .before .before .before .before in
     let a = start .args in
-    plans-none _ _ _ _ (start .pre .passed) _
+    plans-none _ _ _ _ (start .pre .passed) _ _
     (subst
     (λ (r : Found). FindsFor (a .nodes .now) (a .roads .now) (a .question) (planVan (a .question)) (a .list .now) r (looked .find .last .1 .1 .1 .1 .0))
-    (c .enum-told .given .1) (found looked))
+    (c .before .found .given .1) (found looked))
 
 -- the route that was found
-best : (c : tie.After-known-told) →
+best : (c : tie.After-known-told2) →
     let looked = c .before .before .before .before .before in
     let a = looked .before .before .before .before .before .before .args in
-    BestWalk (a .nodes .now) (a .roads .now) (a .question) (a .list .now) (c .before .found .given .0 .0) (looked .find .last .1 .1 .1 .1 .0)
+    BestWalk (a .nodes .now) (a .roads .now) (a .question) (a .list .now) (c .before .found2 .given .0 .0) (looked .find .last .1 .1 .1 .1 .0)
 best c =
     let looked = c .before .before .before .before .before in
     let a = looked .before .before .before .before .before .before .args in
     best-walk _ _ _ _ _ _
     (subst
     (λ (r : Found). FindsFor (a .nodes .now) (a .roads .now) (a .question) (planVan (a .question)) (a .list .now) r (looked .find .last .1 .1 .1 .1 .0))
-    (c .before .found .given .1) (found looked))
+    (c .before .found2 .given .1) (found looked))
 
 -- the list has room for it
-room : (c : tie.After-known-told) → c .before .found .given .0 .0 ≤ length (c .before .before .before .before .before .find .last .1 .1 .1 .1 .0)
+room : (c : tie.After-known-told2) → c .before .found2 .given .0 .0 ≤ length (c .before .before .before .before .before .find .last .1 .1 .1 .1 .0)
 room c =
     let start = c .before .before .before .before .before .before .before .before .before .before .before in
     count-le _ _ _ _ (start .pre .passed) _ _ (best c)
@@ -80,7 +79,7 @@ drive-found-requires c κs =
     let looked = told .before .before .before .before .before in
     let start = looked .before .before .before .before .before .before in
     let a = start .args in
-    subst (FoundAsks (a .roads .now) (take (told .before .found .given .0 .0) (looked .find .last .1 .1 .1 .1 .0)) (a .question .source))
+    subst (FoundAsks (a .roads .now) (take (told .before .found2 .given .0 .0) (looked .find .last .1 .1 .1 .1 .0)) (a .question .source))
     (sym (start .pre .van-is)) (found-asks _ _ _ _ (start .pre .passed) _ _ (best told))
 
 returns-2 : tie.Need-returns-2
@@ -91,14 +90,14 @@ returns-2 c =
     let a = start .args in
     plans-route _ _ _ _ (start .pre .passed) _ _ (best told) _
     (subst
-    (λ (v : Van). FoundKeeps (a .roads .now) (take (told .before .found .given .0 .0) (looked .find .last .1 .1 .1 .1 .0)) v (c .drive-found .result))
+    (λ (v : Van). FoundKeeps (a .roads .now) (take (told .before .found2 .given .0 .0) (looked .find .last .1 .1 .1 .1 .0)) v (c .drive-found .result))
     (start .pre .van-is) (c .drive-found .ensures))
 
 pub plan-spec : {M : Type 1} → statement M
 plan-spec =
     tie.close
     (tie.spec
-    add-t12
+    add-t11
     find-requires
     (λ c. search needs)
     (λ c. search needs)

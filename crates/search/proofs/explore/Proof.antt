@@ -21,12 +21,12 @@ abbrev μ-loop : tie.MeasureT-loop
 mul-labels : tie.Need-mul-labels Inv-loop μ-loop
 mul-labels c =
     let start = c .before .before .before .before .before .before in
-    omega (arith, start .pre .source-in, start .pre .readable .few)
+    omega (arith, start .pre .sets-out .source-in, start .pre .sets-out .readable .few)
 
 slice-write-labels : tie.Need-slice-write-labels Inv-loop μ-loop
 slice-write-labels c =
     let start = c .before .before .before .before .before .before in
-    omega (arith, start .pre .source-in, start .pre .readable .few, start .pre .sized .long-labels)
+    omega (arith, start .pre .sets-out .source-in, start .pre .sets-out .readable .few, start .pre .sized .long-labels)
 
 key-requires : tie.Need-key-requires Inv-loop μ-loop
 key-requires c κs = source-asks _ _ _ _ _ _ _ _ (c .before .before .before .before .before .before .pre)

@@ -1,58 +1,58 @@
--- `search::find` meets its contract. The lists are all 0 at first; of the lists that `explore` leaves, the sixth are the
+-- `search::find` meets its contract. `sought` is where the search has ended; of the lists that it leaves, the sixth are the
 -- labels and the seventh the ways. Assumes nothing.
+use Prim.Native.Nat.{ℕ}
 use native.Mathlib.Omega.{arith}
 use borrow.Author.Needs.{needs}
-use Rattle.search.proofs.Finding.{chain-asks, explore-asks, label-asks, finds-nowhere, trailed, write-asks, finds-route}
+use lib.ListN.{replicate, length-replicate}
+use Rattle.frontier.proofs.Empty.{zeros}
+use Rattle.network.specs.Files.{mostJunctions}
+use Rattle.search.proofs.Finding.{reason-asks, finds-nowhere, trailed, write-asks, finds-route}
+use Rattle.search.proofs.Seeking.{new-lent, new-asks, lent-on}
 use Rattle.search.proofs.find.Statement.{statement}
 use Rattle.search.proofs.find.Tie as tie
 
-chain-requires : tie.Need-chain-requires
-chain-requires c κs = chain-asks _ _ _ (c .before .before .before .before .pre .readable)
+seek-requires : tie.Need-seek-requires
+seek-requires c κs =
+    new-asks _ _ _ _ _ (c .before .before .before .before .before .before .before .pre .sets-out) (length-replicate {A = ℕ} mostJunctions 0) (zeros mostJunctions)
 
-explore-requires : tie.Need-explore-requires
-explore-requires c κs =
-    let chained = c .before .before .before .before .before in
-    let start = chained .before .before .before .before .before in
-    explore-asks _ _ _ _ _ _ (label-asks _ _ _ _ _ (start .pre)) (chained .chain .ensures)
+reason-requires : tie.Need-reason-requires
+reason-requires c κs =
+    let sought = c .before .before .before .before .before .before .before .before .before in
+    let start = sought .before .before .before .before .before .before .before .before in
+    let x = sought .seek in
+    let k = x .kept .1 .1 .1 .1 in
+    reason-asks _ _ _ _ _ (start .pre) _ _ _ (x .ensures) (c .before .before .before .before .if1 .taken) _
+    (lent-on (new-lent (replicate mostJunctions 0) (length-replicate {A = ℕ} mostJunctions 0)) (k .0) (k .1 .0) (k .1 .1 .0) (k .1 .1 .1 .0))
 
 returns : tie.Need-returns
 returns c =
-    let explored = c .before .before .before .before in
-    let start = explored .before .before .before .before .before .before .before .before .before .before .before in
-    let x = explored .explore in
-    let labels = x .last .1 .1 .1 .1 .1 .0 in
-    let ways = x .last .1 .1 .1 .1 .1 .1 .0 in
-    finds-nowhere _ _ _ _ _ (start .pre) labels ways (x .ensures) (c .if1 .taken)
+    let sought = c .before .before .before .before .before .before .before .before .before .before .before .before .before .before in
+    let start = sought .before .before .before .before .before .before .before .before in
+    finds-nowhere _ _ _ _ _ (start .pre) _ _ _ (sought .seek .ensures) (c .before .before .before .before .before .before .before .before .before .if1 .taken) (c .before .before .before .before .reason .ensures)
 
 count-back-requires : tie.Need-count-back-requires
 count-back-requires c κs =
-    let explored = c .before .before .before .before .before in
-    let start = explored .before .before .before .before .before .before .before .before .before .before .before in
-    let x = explored .explore in
-    let labels = x .last .1 .1 .1 .1 .1 .0 in
-    let ways = x .last .1 .1 .1 .1 .1 .1 .0 in
-    trailed _ _ _ _ _ (start .pre) labels ways (x .ensures) (x .kept .1 .1 .1 .1 .1 .1 .0) (omega (arith, c .before .if1 .left))
+    let sought = c .before .before .before .before .before .before in
+    let start = sought .before .before .before .before .before .before .before .before in
+    let x = sought .seek in
+    trailed _ _ _ _ _ (start .pre) _ _ _ (x .ensures) (x .kept .1 .1 .1 .1 .1 .1 .0) (omega (arith, c .before .if1 .left))
 
 write-back-requires : tie.Need-write-back-requires
 write-back-requires c κs =
     let counted = c .before .before in
-    let explored = counted .before .before .before .before .before .before in
-    let start = explored .before .before .before .before .before .before .before .before .before .before .before in
-    let x = explored .explore in
-    let labels = x .last .1 .1 .1 .1 .1 .0 in
-    let ways = x .last .1 .1 .1 .1 .1 .1 .0 in
-    write-asks _ _ _ _ _ (start .pre) labels ways (x .ensures) (x .kept .1 .1 .1 .1 .1 .1 .0) (omega (arith, counted .before .before .if1 .left))
+    let sought = counted .before .before .before .before .before .before .before in
+    let start = sought .before .before .before .before .before .before .before .before in
+    let x = sought .seek in
+    write-asks _ _ _ _ _ (start .pre) _ _ _ (x .ensures) (x .kept .1 .1 .1 .1 .1 .1 .0) (omega (arith, counted .before .before .if1 .left))
     _ (counted .count-back .ensures)
 
 returns-2 : tie.Need-returns-2
 returns-2 c =
     let counted = c .before .before .before .before .before in
-    let explored = counted .before .before .before .before .before .before in
-    let start = explored .before .before .before .before .before .before .before .before .before .before .before in
-    let x = explored .explore in
-    let labels = x .last .1 .1 .1 .1 .1 .0 in
-    let ways = x .last .1 .1 .1 .1 .1 .1 .0 in
-    finds-route _ _ _ _ _ (start .pre) labels ways (x .ensures) (x .kept .1 .1 .1 .1 .1 .1 .0) (omega (arith, counted .before .before .if1 .left))
+    let sought = counted .before .before .before .before .before .before .before in
+    let start = sought .before .before .before .before .before .before .before .before in
+    let x = sought .seek in
+    finds-route _ _ _ _ _ (start .pre) _ _ _ (x .ensures) (x .kept .1 .1 .1 .1 .1 .1 .0) (omega (arith, counted .before .before .if1 .left))
     _ _ (counted .count-back .ensures) (c .before .before .write-back .ensures)
 
 pub find-spec : {M : Type 1} → statement M
@@ -60,14 +60,17 @@ find-spec =
     tie.close
     (tie.spec
     (λ c. search needs)
-    chain-requires
+    (λ c. search needs)
+    (λ c. search needs)
+    (λ c. search needs)
+    seek-requires
     (λ c. search needs)
     (λ c. search needs)
     (λ c. search needs)
     (λ c. search needs)
-    explore-requires
     (λ c. search needs)
     (λ c. search needs)
+    reason-requires
     returns
     (λ c. search needs)
     count-back-requires

@@ -1,0 +1,112 @@
+-- One search in lists that are lent: new ones, or those of a search after which nothing waits. Assumes nothing.
+use mathlib.Core.Path.{_≡_, refl, _∙_}
+use mathlib.Core.List.{List}
+use mathlib.Core.Logic.{inl, inr}
+use Prim.Native.Nat.{ℕ, _+_}
+use native.Mathlib.Omega.{arith}
+use lib.ListN.{length, replicate, length-replicate, List·getD-eq-default}
+use Rattle.frontier.proofs.Empty.{zeros}
+use Rattle.frontier.specs.Frontier.{keysFrom, entry, AllZero}
+use Rattle.network.specs.Files.{roadCount, mostJunctions, mostRoads}
+use Rattle.walks.specs.Label.{Net, Best}
+use Rattle.search.specs.Chains.{Unchained, Chained, ChainAsks}
+use Rattle.search.specs.Found.{Labels}
+use Rattle.search.specs.Reading.{net}
+use Rattle.search.specs.Searches.{SetsOut, ExploreAsks, Explored, Lent, SeekAsks, ClearAsks, AgainAsks}
+use Rattle.search.specs.declared.Reading.{Reading}
+use Rattle.search.specs.declared.Trip.{Trip}
+use Rattle.search.proofs.Laws.{tails-in, count-is}
+
+module _ (rd : Reading) (ns rs : List ℕ) (trip : Trip) (chains labels ways queue : List ℕ)
+    (a : SeekAsks rd ns rs trip chains labels ways queue) where
+  pub chain-asks : ChainAsks (net rd rs .roads) chains
+  chain-asks =
+      let r = a .sets-out .readable in
+      record {
+        few = omega (arith, count-is rd rs, r .few-roads);
+        within = λ k h. omega (arith, tails-in rd ns rs r k (omega (arith, count-is rd rs)), r .few);
+        long = a .lent .long;
+        empty = a .no-road;
+      }
+
+  pub explore-asks : (chains' : List ℕ) → Chained (net rd rs .roads) (roadCount rs) chains'
+      → ExploreAsks rd ns rs chains' trip labels ways queue
+  explore-asks chains' c =
+      record {
+        sets-out = a .sets-out;
+        chained = c;
+        sized = a .lent .sized;
+        no-label = a .no-label;
+        no-key = a .no-key;
+      }
+
+-- ---- new lists, which are all 0
+
+pub new-lent : (labels : List ℕ) → length labels ≡ mostJunctions
+    → Lent (replicate (mostJunctions + mostRoads) 0) labels (replicate mostJunctions 0) (replicate (keysFrom + mostJunctions) 0)
+new-lent labels long =
+    record {
+      long = length-replicate {A = ℕ} (mostJunctions + mostRoads) 0;
+      sized =
+          record {
+            long-labels = long;
+            long-ways = length-replicate {A = ℕ} mostJunctions 0;
+            long-queue = length-replicate {A = ℕ} (keysFrom + mostJunctions) 0;
+          };
+    }
+
+pub new-asks : (rd : Reading) (ns rs : List ℕ) (trip : Trip) (labels : List ℕ) → SetsOut rd ns rs (trip .source) (trip .label)
+    → length labels ≡ mostJunctions → AllZero labels
+    → SeekAsks rd ns rs trip (replicate (mostJunctions + mostRoads) 0) labels (replicate mostJunctions 0)
+    (replicate (keysFrom + mostJunctions) 0)
+new-asks rd ns rs trip labels s long none =
+    record {
+      sets-out = s;
+      lent = new-lent labels long;
+      no-road = λ v h. zeros (mostJunctions + mostRoads) v;
+      no-label = none;
+      no-key = zeros (keysFrom + mostJunctions);
+    }
+
+-- where no junction is the target, every label is the best
+pub labels-all : (N : Net) (n : ℕ) (trip : Trip) (labels ways queue : List ℕ) → length labels ≡ mostJunctions
+    → trip .target ≡ mostJunctions → Explored N n trip labels ways queue → Labels N (trip .source) (trip .label) labels
+labels-all N n trip labels ways queue long t e =
+    record { long = long; best = λ v. e .best v (inr (List·getD-eq-default labels 0 (omega arith))) }
+
+-- ---- lists of another search
+
+-- the same sizes
+pub lent-on : {chains labels ways queue : List ℕ} {chains' labels' ways' queue' : List ℕ} → Lent chains labels ways queue
+    → length chains' ≡ length chains → length labels' ≡ length labels → length ways' ≡ length ways → length queue' ≡ length queue
+    → Lent chains' labels' ways' queue'
+lent-on l c la w q =
+    record {
+      long = c ∙ l .long;
+      sized =
+          record {
+            long-labels = la ∙ l .sized .long-labels;
+            long-ways = w ∙ l .sized .long-ways;
+            long-queue = q ∙ l .sized .long-queue;
+          };
+    }
+
+module _ (rd : Reading) (ns rs : List ℕ) (trip : Trip) (chains labels ways queue : List ℕ)
+    (a : AgainAsks rd ns rs trip chains labels ways queue) where
+  pub clear-asks : ClearAsks chains labels
+  clear-asks = record { long-chains = a .lent .long; long-labels = a .lent .sized .long-labels }
+
+  pub seek-asks : (chains' labels' : List ℕ) → length chains' ≡ length chains → length labels' ≡ length labels
+      → Unchained chains' → AllZero labels' → SeekAsks rd ns rs trip chains' labels' ways queue
+  seek-asks chains' labels' c l u z =
+      record {
+        sets-out = a .sets-out;
+        lent = lent-on (a .lent) c l refl refl;
+        no-road = u;
+        no-label = z;
+        no-key = a .no-key;
+      }
+
+pub best-target : (N : Net) (n : ℕ) (trip : Trip) (labels ways queue : List ℕ) → Explored N n trip labels ways queue
+    → Best N (trip .source) (trip .label) (trip .target) (entry labels (trip .target))
+best-target N n trip labels ways queue e = e .best (trip .target) (inl refl)

@@ -1,0 +1,81 @@
+-- What whole searches ask and keep. No promise cites this file.
+use mathlib.Core.Path.{_≡_}
+use mathlib.Core.List.{List}
+use mathlib.Core.Logic.{_⊎_}
+use Prim.Native.Nat.{ℕ, _+_, _≤_, _<_}
+use lib.ListN.{length}
+use Rattle.frontier.specs.Frontier.{entry, AllZero}
+use Rattle.network.specs.Files.{junctions, roadCount, mostJunctions, mostRoads}
+use Rattle.walks.specs.Label.{Net, Best}
+use Rattle.search.specs.Chains.{Unchained, Chained}
+use Rattle.search.specs.Reading.{forward, net}
+use Rattle.search.specs.Steps.{Readable, Sized}
+use Rattle.search.specs.Trails.{Route}
+use Rattle.search.specs.declared.Reading.{Reading}
+use Rattle.search.specs.declared.Trip.{Trip}
+
+-- where a search sets out, and with what label
+pub record SetsOut (rd : Reading) (ns rs : List ℕ) (source label : ℕ) : Type 0 where
+  pub readable : Readable (rd .battery) ns rs
+  pub source-in : source < junctions ns
+  pub some : 0 < label
+  pub label-le : label ≤ rd .battery + 1
+
+pub record ExploreAsks (rd : Reading) (ns rs chains : List ℕ) (trip : Trip) (labels ways queue : List ℕ) : Type 0 where
+  pub sets-out : SetsOut rd ns rs (trip .source) (trip .label)
+  pub chained : Chained (net rd rs .roads) (roadCount rs) chains
+  pub sized : Sized labels ways queue
+  pub no-label : AllZero labels
+  pub no-key : AllZero queue
+
+-- the target's label is the best; where it has none the search was not stopped, every label is the best and nothing waits
+pub record Explored (N : Net) (n : ℕ) (trip : Trip) (labels ways queue : List ℕ) : Type 0 where
+  pub best : (v : ℕ) → (v ≡ trip .target) ⊎ (entry labels (trip .target) ≡ 0)
+      → Best N (trip .source) (trip .label) v (entry labels v)
+  pub route : 0 < entry labels (trip .target)
+      → Route N (entry ways) n (trip .source) (trip .label) (trip .target) (entry labels (trip .target))
+  pub emptied : entry labels (trip .target) ≡ 0 → AllZero queue
+
+-- ---- in lists that are lent
+
+-- the sizes of all four
+pub record Lent (chains labels ways queue : List ℕ) : Type 0 where
+  pub long : length chains ≡ mostJunctions + mostRoads
+  pub sized : Sized labels ways queue
+
+-- no road on a chain, no label, no key
+pub record SeekAsks (rd : Reading) (ns rs : List ℕ) (trip : Trip) (chains labels ways queue : List ℕ) : Type 0 where
+  pub sets-out : SetsOut rd ns rs (trip .source) (trip .label)
+  pub lent : Lent chains labels ways queue
+  pub no-road : Unchained chains
+  pub no-label : AllZero labels
+  pub no-key : AllZero queue
+
+pub record ClearAsks (chains labels : List ℕ) : Type 0 where
+  pub long-chains : length chains ≡ mostJunctions + mostRoads
+  pub long-labels : length labels ≡ mostJunctions
+
+pub record AgainAsks (rd : Reading) (ns rs : List ℕ) (trip : Trip) (chains labels ways queue : List ℕ) : Type 0 where
+  pub sets-out : SetsOut rd ns rs (trip .source) (trip .label)
+  pub target-in : trip .target < junctions ns
+  pub lent : Lent chains labels ways queue
+  pub no-key : AllZero queue
+
+-- ---- the route, the reason, the label of every junction
+
+pub record FindAsks (M : ℕ) (ns rs : List ℕ) (trip : Trip) (list : List ℕ) : Type 0 where
+  pub sets-out : SetsOut (forward M) ns rs (trip .source) (trip .label)
+  pub target-in : trip .target < junctions ns
+  pub room : junctions ns ≤ length list + 1
+
+pub record ReasonAsks (M : ℕ) (ns rs : List ℕ) (trip : Trip) (chains labels ways queue : List ℕ) : Type 0 where
+  pub readable : Readable M ns rs
+  pub source-in : trip .source < junctions ns
+  pub target-in : trip .target < junctions ns
+  pub lent : Lent chains labels ways queue
+  pub no-key : AllZero queue
+
+pub record LabelAsks (rd : Reading) (ns rs : List ℕ) (source label : ℕ) (labels : List ℕ) : Type 0 where
+  pub sets-out : SetsOut rd ns rs source label
+  pub long : length labels ≡ mostJunctions
+  pub no-label : AllZero labels
