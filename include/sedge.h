@@ -5,7 +5,8 @@
  * energy is in mWh. A road is named by its record number, a junction by its own, from 0.
  *
  * Answers. number 0 is success, any other the refusal's number (README.md has the table); place is
- * the place of the first fault. A refusal has zero for all other numbers and writes to no list.
+ * the place of the first fault, of 10 the least start charge. A refusal has zero for all other
+ * numbers and writes to no list.
  *
  * Asked of the caller: each pointer is to as many elements as the length beside it says, and is not
  * null even where that length is 0; no list that is written overlaps anything else that is lent.
@@ -33,7 +34,9 @@ sedge_checked sedge_check(const uint8_t *nodes, size_t nodes_len, const uint8_t 
 
 /* Best route: of all walks from source to target, of any length, one that arrives with the most
  * charge and visits no junction twice. route needs room for (junctions - 1) entries; its first
- * `roads` entries become the route, the others stay. Refusals in order: 1 to 6, the records, 10. */
+ * `roads` entries become the route, the others stay. Refusals in order: 1 to 6, the records, then
+ * where no walk is feasible one of: 10, a larger start up to a full battery would do, and place is
+ * the least; 16, none would, but a chain of roads leads there; 17, no chain of roads does. */
 sedge_planned sedge_best_route(const uint8_t *nodes, size_t nodes_len, const uint8_t *roads, size_t roads_len,
                                int64_t battery, int64_t start, uint64_t source, uint64_t target,
                                uint16_t *route, size_t route_len);

@@ -126,14 +126,15 @@ pub fn case(seed: u64) -> Case {
     let mut dice = Dice::new(seed);
     let (round, turn) = (seed / 48, seed % 48);
     match turn {
-        0..=15 => sound(seed, &mut dice, hills),
+        0..=13 => sound(seed, &mut dice, hills),
+        14..=15 => in_vain(seed, &mut dice),
         16..=22 => sound(seed, &mut dice, loops),
         23..=28 => sound(seed, &mut dice, parallels),
         29 => sound(seed, &mut dice, middling),
         30..=33 => extreme(seed, &mut dice),
         34 => ladder(seed, &mut dice),
         35 => small(seed, &mut dice),
-        36..=39 => spoilt(seed, &mut dice, &[1 + (4 * round + turn) % 15], Spot::Apart),
+        36..=39 => spoilt(seed, &mut dice, &[1 + (4 * round + turn) % 17], Spot::Apart),
         _ => {
             let (first, second, spot) = PAIRS[(8 * round + turn) as usize % PAIRS.len()];
             spoilt(seed, &mut dice, &[first, second], spot)
@@ -154,6 +155,8 @@ pub fn full_size(seed: u64) -> Case {
     draft.ask(&mut dice);
     if seed % 4 == 2 {
         draft.ask_end_to_end(&mut dice);
+    } else if dice.one_in(3) {
+        draft.ask_in_vain(&mut dice);
     }
     let fault = dice.pick(&[7, 8, 9]);
     match dice.below(24) {
@@ -188,9 +191,11 @@ pub fn tiny(seed: u64) -> Case {
 /// Two questions of which the second is nowhere worse: battery and start are no lower and no road is dearer.
 pub fn no_worse(seed: u64) -> (Case, Case) {
     let mut dice = Dice::new(seed);
-    let shape = dice.pick(&[hills, loops, parallels]);
-    let mut draft = shape(&mut dice);
+    let mut draft = any_shape(&mut dice);
     draft.ask(&mut dice);
+    if dice.one_in(4) {
+        draft.ask_in_vain(&mut dice);
+    }
     let first = draft.clone().into_case(seed);
     let query = &mut draft.query;
     if dice.one_in(2) {
@@ -246,6 +251,13 @@ impl Draft {
         if consumption.abs() <= MOST_CONSUMPTION {
             self.roads.push(Record { tail, head, consumption: consumption as i32 });
         }
+    }
+
+    /// Adds a junction with the potential of another one, and room for it in the list, and gives its number.
+    fn add_level_junction(&mut self, other: usize) -> usize {
+        self.potentials.push(self.potentials[other]);
+        self.room += 1;
+        self.potentials.len() - 1
     }
 
     /// Adds a road from a junction to itself and gives its number.
@@ -330,6 +342,23 @@ impl Draft {
         self.route = self.wander(dice, battery, self.potentials.len()).route;
     }
 
+    /// Asks for any target from a low start. Two times in five the roads to it are made to cost all that the battery
+    /// holds or 1 more, one time in five to lead back to where they begin.
+    fn ask_in_vain(&mut self, dice: &mut Dice) {
+        let target = dice.below(self.potentials.len()) as u16;
+        self.query.start = dice.between(0, self.query.battery / 4);
+        self.query.target = u64::from(target);
+        let dear = (self.query.battery + dice.between(0, 1)).min(MOST_CONSUMPTION) as i32;
+        let bar = dice.below(5);
+        for road in self.roads.iter_mut().filter(|road| road.head == target && road.tail != target) {
+            match bar {
+                0 | 1 => road.consumption = road.consumption.max(dear),
+                2 => *road = Record { head: road.tail, consumption: road.consumption.abs(), ..*road },
+                _ => {}
+            }
+        }
+    }
+
     /// Puts some roads at the end of the given route without looking where they begin or what they cost.
     fn stray(&mut self, dice: &mut Dice) {
         for _ in 0..dice.below(3) + 1 {
@@ -356,6 +385,18 @@ fn sound(seed: u64, dice: &mut Dice, shape: fn(&mut Dice) -> Draft) -> Case {
     let mut draft = shape(dice);
     draft.ask(dice);
     draft.into_case(seed)
+}
+
+/// The same with any shape and a question that is often in vain.
+fn in_vain(seed: u64, dice: &mut Dice) -> Case {
+    let mut draft = any_shape(dice);
+    draft.ask(dice);
+    draft.ask_in_vain(dice);
+    draft.into_case(seed)
+}
+
+fn any_shape(dice: &mut Dice) -> Draft {
+    dice.pick(&[hills, loops, parallels])(dice)
 }
 
 /// A terrain of up to 64 junctions, with roads both ways between neighbours.
@@ -575,6 +616,12 @@ const PAIRS: &[(u64, u64, Spot)] = &[
     (7, 10, Spot::Apart),
     (8, 10, Spot::Apart),
     (9, 10, Spot::Apart),
+    (7, 16, Spot::Apart),
+    (8, 16, Spot::Apart),
+    (9, 16, Spot::Apart),
+    (7, 17, Spot::Apart),
+    (8, 17, Spot::Apart),
+    (9, 17, Spot::Apart),
     (7, 12, Spot::Apart),
     (8, 12, Spot::Apart),
     (9, 12, Spot::Apart),
@@ -589,8 +636,7 @@ const PAIRS: &[(u64, u64, Spot)] = &[
 
 /// A network with at least two junctions and two roads, and a battery that a road can exceed.
 fn sound_draft(dice: &mut Dice) -> Draft {
-    let shape = dice.pick(&[hills, loops, parallels]);
-    let mut draft = shape(dice);
+    let mut draft = any_shape(dice);
     while draft.roads.len() < 2 {
         draft.add_loop(0, 0);
     }
@@ -637,7 +683,7 @@ fn spoil_file(case: &mut Case, dice: &mut Dice, fault: u64) {
     }
 }
 
-/// Spoils a number of the question, the list's length or the given route's, for faults 3 to 6, 10 and 11.
+/// Spoils a number of the question, the list's length or the given route's, for faults 3 to 6, 10, 11, 16 and 17.
 fn spoil_question(draft: &mut Draft, dice: &mut Dice, fault: u64) {
     const BITS_32: i64 = 1 << 32;
     let Query { battery, start, .. } = draft.query;
@@ -655,17 +701,38 @@ fn spoil_question(draft: &mut Draft, dice: &mut Dice, fault: u64) {
             let needed = draft.potentials.len() - 1;
             draft.room = dice.pick(&[needed - 1, needed - 1, needed / 2, 0]);
         }
-        10 => {
-            draft.query.target = draft.potentials.len() as u64;
-            draft.potentials.push(dice.between(-10, 10) as i32);
-            draft.room += 1;
-        }
+        10 | 16 | 17 => ask_beyond(draft, dice, fault),
         11 => {
             let length = MOST_ROUTE_ROADS + dice.pick(&[1, 1, 2, 100, 60_000]);
             draft.route.resize(length, dice.below(draft.roads.len()) as u16);
         }
         _ => {}
     }
+}
+
+/// Asks for a new junction, level with the source, for which the start is too low (10) or the battery too small, by one
+/// road or by two together (16), or to which no road leads, though perhaps one back (17).
+fn ask_beyond(draft: &mut Draft, dice: &mut Dice, fault: u64) {
+    let (source, battery) = (draft.query.source as usize, draft.query.battery);
+    let start = draft.query.start.min(battery - 1);
+    let beyond = draft.add_level_junction(source);
+    match fault {
+        10 => {
+            let enough = dice.between(start + 1, battery);
+            draft.query.start = start;
+            draft.add_road(source, beyond, dice.pick(&[start + 1, enough, enough, battery]));
+        }
+        16 if dice.one_in(2) => draft.add_road(source, beyond, battery + 1),
+        16 => {
+            let further = draft.add_level_junction(source);
+            let first = dice.between(1, battery);
+            draft.add_road(source, beyond, first);
+            draft.add_road(beyond, further, dice.between(battery - first + 1, battery));
+        }
+        _ if dice.one_in(2) => draft.add_road(beyond, source, 0),
+        _ => {}
+    }
+    draft.query.target = draft.potentials.len() as u64 - 1;
 }
 
 /// Makes the source, the target or both no junction; some would be one if their upper bits were lost.

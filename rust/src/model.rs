@@ -2,8 +2,9 @@
 //! two can be compared.
 //!
 //! Best charges spread over a plain queue until none rises any more; a profile is found by driving the route from
-//! chosen starts, a charge to set off with by asking for best charges from chosen starts. All energy is in mWh and in
-//! 64 bits, where no sum of document 01 wraps.
+//! chosen starts, a charge to set off with by asking for best charges from chosen starts. Why there is no route is told
+//! by that charge and, where none is enough, by following the roads on from the source. All energy is in mWh and in 64
+//! bits, where no sum of document 01 wraps.
 
 use crate::{Checked, Driven, Files, Planned, Profiled};
 use std::collections::VecDeque;
@@ -23,7 +24,7 @@ pub struct Query {
     pub target: u64,
 }
 
-/// A refusal: its number in document 01 and the place of the fault.
+/// A refusal: its number and the place of the fault, or of 10 the least start that is enough.
 #[derive(Clone, Copy, Debug, PartialEq, Eq)]
 pub struct Refusal {
     pub number: u64,
@@ -114,7 +115,7 @@ pub fn best_arrival(files: Files, query: Query, room: usize) -> Result<i64, Refu
     refuse_if(!network.has_junction(query.source) || !network.has_junction(query.target), 5, 0)?;
     refuse_if(room < network.potentials.len() - 1, 6, 0)?;
     test_records(&network)?;
-    best_arrivals(&network, query)[query.target as usize].ok_or(Refusal { number: 10, place: 0 })
+    best_arrivals(&network, query)[query.target as usize].ok_or_else(|| reason_for_no_route(&network, query))
 }
 
 /// Drive of a given route.
@@ -155,7 +156,9 @@ pub fn set_off(files: Files, query: Query, room: usize, junctions: &[u64]) -> Re
     refuse_if(room < network.potentials.len(), 6, 0)?;
     test_records(&network)?;
     let leaving = network.roads_from();
-    Ok(junctions.iter().map(|&source| charge_to_set_off(&leaving, Query { source, ..query })).collect())
+    let charge_from =
+        |&source| charge_to_set_off(&leaving, Query { source, ..query }).map_or(-1, |charge| charge as i32);
+    Ok(junctions.iter().map(charge_from).collect())
 }
 
 /// The network of two files whose lengths are right: refusals 1 and 2.
@@ -185,6 +188,23 @@ pub fn best_arrivals(network: &Network, query: Query) -> Vec<Option<i64>> {
 fn arrivals_over(leaving: &[Vec<Road>], query: Query) -> Vec<Option<i64>> {
     let by_the_rule = |charge, consumption| charge_after(charge, consumption, query.battery);
     greatest_labels(leaving, query.source, query.start, by_the_rule)
+}
+
+/// Does a chain of roads lead from source to target? Only their directions matter, not what they take.
+pub fn is_joined(network: &Network, source: u64, target: u64) -> bool {
+    let leaving = network.roads_from();
+    let mut is_met = vec![false; leaving.len()];
+    is_met[source as usize] = true;
+    let mut waiting = VecDeque::from([source as usize]);
+    while let Some(junction) = waiting.pop_front() {
+        for road in &leaving[junction] {
+            if !is_met[road.head] {
+                is_met[road.head] = true;
+                waiting.push_back(road.head);
+            }
+        }
+    }
+    is_met[target as usize]
 }
 
 /// The greatest gain, which is the least sum of consumptions, over all walks from the source to each junction,
@@ -320,6 +340,16 @@ fn test_records(network: &Network) -> Result<(), Refusal> {
     Ok(())
 }
 
+/// Why no walk from source to target is feasible: the start is too low (10, with the least that is enough), a full
+/// battery would not help though roads lead there (16), or none do (17).
+fn reason_for_no_route(network: &Network, query: Query) -> Refusal {
+    match charge_to_set_off(&network.roads_from(), query) {
+        Some(least) => Refusal { number: 10, place: least as u64 },
+        None if is_joined(network, query.source, query.target) => Refusal { number: 16, place: 0 },
+        None => Refusal { number: 17, place: 0 },
+    }
+}
+
 /// The road of a route's entry, or refusal 12, 13 or 14 at its place.
 fn test_place(network: &Network, van: Van, place: usize, entry: u16) -> Result<Road, Refusal> {
     let road = test_entry(network, van.junction, place, entry)?;
@@ -384,14 +414,11 @@ fn need_of(consumptions: &[i64], battery: i64) -> i64 {
     least_start(battery, |start| arrival_over(consumptions, battery, start).is_some())
 }
 
-/// The least start from which some walk from source to target can be driven, or -1 where a full battery is not enough.
-fn charge_to_set_off(leaving: &[Vec<Road>], query: Query) -> i32 {
+/// The least start from which some walk from source to target can be driven, or none where a full battery is not
+/// enough.
+fn charge_to_set_off(leaving: &[Vec<Road>], query: Query) -> Option<i64> {
     let arrives = |start| arrivals_over(leaving, Query { start, ..query })[query.target as usize].is_some();
-    if arrives(query.battery) {
-        least_start(query.battery, arrives) as i32
-    } else {
-        -1
-    }
+    arrives(query.battery).then(|| least_start(query.battery, arrives))
 }
 
 /// The least start that arrives, by halving, where a full battery does: more charge never hinders.

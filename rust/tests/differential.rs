@@ -5,14 +5,14 @@
 //! without the counts.
 
 use sedge::generate::{self, hill_network, nodes_file, roads_file, Case, Dice, Record};
-use sedge::model::{self, Network, Query, Refusal};
+use sedge::model::{self, Network, Query, Refusal, Road};
 use sedge::{best_route, check, drive, profile, set_off, Checked, Driven, Files, Planned, Profiled};
 use std::collections::BTreeMap;
 use std::fmt::Debug;
 
 const SEEDED_NETWORKS: u64 = 48_000;
 const FULL_SIZE_NETWORKS: u64 = 300;
-const FULL_SIZE_LISTS: u64 = 8;
+const FULL_SIZE_LISTS: u64 = 10;
 const TINY_NETWORKS: u64 = 8_000;
 const NO_WORSE_PAIRS: u64 = 6_000;
 
@@ -42,6 +42,12 @@ fn answers_agree_on_seeded_networks() {
         assert!(tally.most_roads_driven >= LEAST_TIMES, "routes of 8,192 roads that can be driven");
         assert!(tally.wide_totals >= LEAST_TIMES, "drives with a total beyond 32 bits");
         assert!(tally.wide_sums >= LEAST_TIMES, "profiles with a sum beyond 32 bits");
+        let no_routes = &tally.no_routes;
+        assert!(no_routes.full >= 100, "refusals 10 of which the least start is a full battery");
+        assert!(no_routes.far_above >= 500, "refusals 10 of which the least start is 2 or more above the start");
+        assert!(no_routes.by_one_road >= 200, "refusals 16 where every chain has a road above the battery size");
+        assert!(no_routes.by_all_roads >= 200, "refusals 16 where some chain has no road above the battery size");
+        assert!(no_routes.joined_backward >= 300, "refusals 17 where roads lead from the target to the source");
         let charges = &tally.charges;
         assert!(charges.lists >= 20_000, "lists of charges to set off with");
         assert!(charges.zero >= 50_000, "charges of 0 at junctions other than the depot");
@@ -74,6 +80,9 @@ fn full_size_networks_agree() {
         assert!(2 * tally.two_or_more >= tally.networks, "at least half have a route of two or more roads");
         assert!(tally.spilling >= 50, "best routes that spill");
         assert_eq!(longest, model::MOST_JUNCTIONS as u64 - 1, "a route fills the list");
+        for number in [10, 16, 17] {
+            assert!(tally.refusals[&(Entry::BestRoute, number)] >= 5, "best routes refused with {number}");
+        }
         assert!(tally.charges.lists >= 200, "lists of charges to set off with");
     }
 }
@@ -81,7 +90,7 @@ fn full_size_networks_agree() {
 /// Every number of a full-size list, by the best routes from its junction.
 #[test]
 fn full_size_lists_agree_with_best_routes() {
-    let (mut lists, mut above_zero) = (0, 0);
+    let (mut lists, mut above_zero, mut none) = (0, 0, 0);
     over_seeds(FULL_SIZE_LISTS, |seed| {
         let case = generate::full_size(seed);
         let mut list = [0; model::MOST_JUNCTIONS];
@@ -89,35 +98,40 @@ fn full_size_lists_agree_with_best_routes() {
         if set_off(case.files(), case.query.battery, case.query.target, &mut list).number == 0 {
             lists += 1;
             above_zero += list.iter().filter(|charge| **charge > 0).count();
+            none += list.iter().filter(|charge| **charge == -1).count();
             compared = compare_with_best_routes(&case, &list, 0..model::MOST_JUNCTIONS as u64);
         }
         (compared, case)
     });
-    println!("full-size lists: {lists}, charges above 0: {above_zero}");
+    println!("full-size lists: {lists}, charges above 0: {above_zero}, of -1: {none}");
     if is_whole_run() {
         assert!(lists >= 5, "lists");
         assert!(above_zero >= 5_000, "charges above 0");
+        assert!(none >= 2_000, "charges of -1");
     }
 }
 
 #[test]
 fn tiny_networks_agree_with_enumeration() {
     let mut tally = Tally::default();
-    let (mut questions, mut charges) = (0, 0);
+    let (mut answers, mut charges) = (BTreeMap::new(), 0);
     over_seeds(TINY_NETWORKS, |seed| {
         let case = generate::tiny(seed);
         let compared = compare(&case, &mut tally).and_then(|planned| {
-            questions += compare_with_enumeration(&case)?;
+            compare_with_enumeration(&case, &mut answers)?;
             charges += compare_charges_with_enumeration(&case)?;
             compare_all_starts(&case)?;
             Ok(planned)
         });
         (compared, case)
     });
-    println!("{tally}questions compared with all walks: {questions}, charges to set off with: {charges}");
+    println!("{tally}best routes compared with all walks, by number: {answers:?}, charges to set off with: {charges}");
     if is_whole_run() {
         assert!(tally.networks >= 5_000, "networks");
-        assert!(questions >= 20_000, "questions");
+        assert!(answers.values().sum::<u64>() >= 20_000, "best routes");
+        for number in [0, 10, 16, 17] {
+            assert!(answers[&number] >= 1_000, "best routes answered with {number}");
+        }
         assert!(charges >= 20_000, "charges to set off with");
         assert!(tally.two_or_more >= 1_000, "routes of two or more roads");
         assert!(tally.decided_by_the_rule >= 200, "best arrivals that the sums alone do not give");
@@ -125,41 +139,49 @@ fn tiny_networks_agree_with_enumeration() {
 }
 
 /// Demand 3: with no smaller battery, no lower start and no dearer road, a van that arrives still arrives, and with
-/// no less.
+/// no less. Where there is no route, the least start that is enough does not rise, and chains of roads stay.
 #[test]
 fn nothing_better_arrives_with_less() {
-    let (mut arrived, mut rose) = (0, 0);
+    let (mut pairs, mut rose) = (BTreeMap::<_, u64>::new(), 0);
     over_seeds(NO_WORSE_PAIRS, |seed| {
         let (first, second) = generate::no_worse(seed);
         let (before, after) = (planned(&first), planned(&second));
-        arrived += u64::from(before.number == 0);
+        *pairs.entry((before.number, after.number)).or_default() += 1;
         rose += u64::from(before.number == 0 && after.arrival > before.arrival);
-        let is_no_worse = before.number != 0 || (after.number == 0 && after.arrival >= before.arrival);
+        let is_no_worse = match (before.number, after.number) {
+            (0, 0) => after.arrival >= before.arrival,
+            (10, 10) => after.place <= before.place,
+            (10, 0) | (16, 0 | 10 | 16) | (17, 17) => true,
+            _ => false,
+        };
         let compared = if is_no_worse { Ok(()) } else { Err(format!("{before:?}\nthen {after:?} of\n{second}")) };
         (compared, first)
     });
-    println!("first arrives: {arrived}, second arrives with more: {rose}");
+    println!("pairs by both numbers: {pairs:?}, second arrives with more: {rose}");
     if is_whole_run() {
-        assert!(arrived >= 3_000, "pairs of which the first arrives");
+        assert!(pairs[&(0, 0)] >= 3_000, "pairs of which the first arrives");
         assert!(rose >= 1_000, "pairs of which the second arrives with more");
+        for numbers in [(10, 0), (10, 10), (16, 0), (16, 10), (16, 16), (17, 17)] {
+            assert!(pairs[&numbers] >= LEAST_TIMES, "pairs answered with {numbers:?}");
+        }
     }
 }
 
-/// The table "On both sides of the line" of document 01, row by row.
+/// The table "On both sides of the line" of document 01, row by row, with the reasons why there is no route.
 #[test]
 fn rows_of_document_01() {
     let hill = Hill::new();
     assert_eq!(hill.best(1_000, 900, 0, 3), Ok((100, vec![0, 1, 3])));
     assert_eq!(hill.best(1_000, 700, 0, 3), Ok((0, vec![0, 1, 3])));
-    assert_eq!(hill.best(1_000, 699, 0, 3), Err((10, 0)));
+    assert_eq!(hill.best(1_000, 699, 0, 3), Err((10, 700)));
     assert_eq!(hill.best(1_000, 300, 0, 2), Ok((500, vec![0, 1])));
     assert_eq!(hill.best(1_000, 299, 0, 2), Ok((199, vec![2])));
     assert_eq!(hill.best(1_000, 100, 0, 2), Ok((0, vec![2])));
-    assert_eq!(hill.best(1_000, 99, 0, 2), Err((10, 0)));
+    assert_eq!(hill.best(1_000, 99, 0, 2), Err((10, 100)));
     assert_eq!(hill.best(1_000, 0, 1, 1), Ok((0, vec![])));
     assert_eq!(hill.best(1_100, 900, 0, 3), Ok((200, vec![0, 1, 3])));
-    assert_eq!(hill.best(899, 899, 0, 3), Err((10, 0)));
-    assert_eq!(hill.best(1_000, 1_000, 3, 0), Err((10, 0)));
+    assert_eq!(hill.best(899, 899, 0, 3), Err((16, 0)));
+    assert_eq!(hill.best(1_000, 1_000, 3, 0), Err((17, 0)));
 
     assert_eq!(drive(hill.files(), 1_000, 1_000, 1, &[1]), driven(1_000, 0, 500, 500));
     assert_eq!(drive(hill.files(), 1_000, 250, 0, &[0, 1]), refused_drive(14, 0));
@@ -295,6 +317,60 @@ fn charges_to_set_off_with_at_their_limits() {
 
     assert_eq!(listed(&[7], &[], 1, 0), [0]);
     assert_eq!(listed(&[7], &[road(0, 0, 0)], 1, 0), [0]);
+}
+
+/// Every start between any two junctions, by the charges above: too low for them, or no chain of roads; and with a
+/// battery that road 3 exceeds.
+#[test]
+fn reasons_for_no_route_on_hill() {
+    let hill = Hill::new();
+    for (target, charges) in (0..).zip([[0, -1, -1, -1], [300, 0, -1, -1], [100, 0, 0, -1], [700, 400, 900, 0]]) {
+        for (source, charge) in (0..).zip(charges) {
+            for start in 0..=1_000 {
+                let expected = match charge {
+                    -1 => Some((17, 0)),
+                    least => (start < least).then_some((10, least as u64)),
+                };
+                assert_eq!(hill.best(1_000, start, source, target).err(), expected, "{start}, {source} to {target}");
+            }
+        }
+    }
+    for (source, start) in [(0, 0), (0, 700), (1, 400), (2, 0), (2, 899)] {
+        assert_eq!(hill.best(899, start, source, 3), Err((16, 0)), "{start}, {source} to 3");
+    }
+}
+
+/// By hand: on both sides of each line between the reasons. A refusal has no other number and leaves the list.
+#[test]
+fn reasons_for_no_route_at_their_limits() {
+    let road = |tail, head, consumption| Record { tail, head, consumption };
+    let refused = |potentials: &[i32], roads: &[Record], (battery, start), (source, target)| {
+        let mut list = vec![7; potentials.len()];
+        let files = Files { nodes: &nodes_file(potentials), roads: &roads_file(roads) };
+        let planned = best_route(files, battery, start, source, target, &mut list);
+        let Planned { number, place, .. } = planned;
+        assert_eq!(planned, Planned { number, place, roads: 0, arrival: 0, drawn: 0, recovered: 0, spilled: 0 });
+        assert_eq!(list, vec![7; potentials.len()]);
+        (number, place)
+    };
+    let dearest = [road(0, 1, 200_000_000)];
+    assert_eq!(refused(&[0, 0], &dearest, (200_000_000, 199_999_999), (0, 1)), (10, 200_000_000));
+    assert_eq!(refused(&[0, 0], &dearest, (200_000_000, 0), (0, 1)), (10, 200_000_000));
+    assert_eq!(refused(&[0, 0], &dearest, (199_999_999, 199_999_999), (0, 1)), (16, 0));
+    assert_eq!(refused(&[0, 0], &dearest, (200_000_000, 200_000_000), (1, 0)), (17, 0));
+    assert_eq!(refused(&[0, 0], &[road(0, 1, 1)], (1, 0), (0, 1)), (10, 1));
+    assert_eq!(refused(&[0, 0], &[road(0, 1, 2)], (1, 0), (0, 1)), (16, 0));
+    assert_eq!(refused(&[0, 0], &[road(0, 0, 0), road(1, 1, 0)], (1, 1), (0, 1)), (17, 0));
+    assert_eq!(refused(&[0, 0], &[], (1, 1), (0, 1)), (17, 0));
+
+    // Each climb alone can be driven; the fall before them fills the battery and no more.
+    let fall_and_climbs = [road(0, 1, -500), road(1, 2, 80), road(2, 3, 80)];
+    let heights = [0, 500, 500, 500];
+    assert_eq!(refused(&heights, &fall_and_climbs, (160, 159), (1, 3)), (10, 160));
+    assert_eq!(refused(&heights, &fall_and_climbs, (159, 159), (1, 3)), (16, 0));
+    assert_eq!(refused(&heights, &fall_and_climbs, (159, 0), (0, 3)), (16, 0));
+    assert_eq!(refused(&heights, &fall_and_climbs, (159, 79), (2, 3)), (10, 80));
+    assert_eq!(refused(&heights, &fall_and_climbs, (160, 160), (3, 0)), (17, 0));
 }
 
 /// Hill network H.
@@ -460,9 +536,11 @@ fn compare_best_route(case: &Case, tally: &mut Tally) -> Result<Planned, String>
     let roads = planned.roads as usize;
     let list = lent.list();
     match model::best_arrival(case.files(), case.query, case.room) {
-        Err(Refusal { number, place }) => {
+        Err(refusal) => {
+            let Refusal { number, place } = refusal;
             let refused = Planned { number, place, roads: 0, arrival: 0, drawn: 0, recovered: 0, spilled: 0 };
             same("best route", planned, refused)?;
+            tally.no_routes.count(case, refusal);
         }
         Ok(arrival) => {
             let found = [planned.number, planned.place, planned.arrival];
@@ -532,22 +610,28 @@ fn compare_set_off(case: &Case, tally: &mut Tally) -> Result<Checked, String> {
     Ok(listed)
 }
 
-/// From each of these junctions a best route must be refused with 10 exactly below its charge to set off with, or at
-/// every start where that is -1.
+/// From each of these junctions a best route must be refused exactly below its charge to set off with, with 10 and that
+/// charge, or at every start where that is -1, with 16 or 17 as the model has it.
 fn compare_with_best_routes(
     case: &Case,
     charges: &[i32],
     junctions: impl IntoIterator<Item = u64>,
 ) -> Result<(), String> {
     let Query { battery, target, .. } = case.query;
+    let network = model::sound_network(case.files()).expect("no refusal was expected");
     let mut route = vec![0; case.room];
     for junction in junctions {
         let charge = i64::from(charges[junction as usize]);
-        let too_low = if charge == -1 { battery } else { charge - 1 };
-        for (start, number) in [(too_low, 10), (charge, 0)] {
+        let (too_low, refused) = match charge {
+            -1 if model::is_joined(&network, junction, target) => (battery, (16, 0)),
+            -1 => (battery, (17, 0)),
+            _ => (charge - 1, (10, charge as u64)),
+        };
+        for (start, expected) in [(too_low.min(0), refused), (too_low, refused), (charge, (0, 0))] {
             if start >= 0 {
                 let planned = best_route(case.files(), battery, start, junction, target, &mut route);
-                same(&format!("best route's number from junction {junction}, start {start}"), planned.number, number)?;
+                let what = format!("best route's number and place from junction {junction}, start {start}");
+                same(&what, (planned.number, planned.place), expected)?;
             }
         }
     }
@@ -560,17 +644,31 @@ fn planned(case: &Case) -> Planned {
     best_route(case.files(), battery, start, source, target, &mut vec![0; case.room])
 }
 
-/// Compares library and model, for every target, with the best of all walks tried one by one.
-fn compare_with_enumeration(case: &Case) -> Result<u64, String> {
+/// Compares library and model, for every target, with all walks tried one by one: the best of them or, where none is
+/// feasible, those from every other start, and then those over the same roads if they took nothing. Counts the answers
+/// by their numbers.
+fn compare_with_enumeration(case: &Case, answers: &mut BTreeMap<u64, u64>) -> Result<(), String> {
     let network = model::sound_network(case.files()).expect("a tiny network is sound");
-    let tried = model::best_by_enumeration(&network, case.query);
+    let tried_from = |start| model::best_by_enumeration(&network, Query { start, ..case.query });
+    let tried = tried_from(case.query.start);
+    let tried_from_all: Vec<_> = (0..=case.query.battery).map(tried_from).collect();
+    let free_roads = network.roads.iter().map(|road| Road { consumption: 0, ..*road }).collect();
+    let chains = model::best_by_enumeration(&Network { roads: free_roads, ..network.clone() }, case.query);
     same("best arrivals by model", model::best_arrivals(&network, case.query), tried.clone())?;
-    for (target, best) in tried.iter().enumerate() {
+    for target in 0..tried.len() {
         let planned = planned(&Case { query: Query { target: target as u64, ..case.query }, ..case.clone() });
-        let arrival = (planned.number == 0).then_some(planned.arrival as i64);
-        same(&format!("best arrival at junction {target}"), arrival, *best)?;
+        let least_start = tried_from_all.iter().position(|tried| tried[target].is_some());
+        let expected = match (tried[target], least_start, chains[target]) {
+            (Some(arrival), _, _) => [0, 0, arrival as u64],
+            (None, Some(least), _) => [10, least as u64, 0],
+            (None, None, Some(_)) => [16, 0, 0],
+            (None, None, None) => [17, 0, 0],
+        };
+        let found = [planned.number, planned.place, planned.arrival];
+        same(&format!("best route's number, place and arrival at junction {target}"), found, expected)?;
+        *answers.entry(planned.number).or_default() += 1;
     }
-    Ok(tried.len() as u64)
+    Ok(())
 }
 
 /// Compares the library's charges to set off with, for every junction, with the least start from which any of all
@@ -617,7 +715,7 @@ impl Entry {
     fn refusals(self) -> &'static [u64] {
         match self {
             Entry::Check => &[1, 2, 7, 8, 9],
-            Entry::BestRoute => &[1, 2, 3, 4, 5, 6, 7, 8, 9, 10],
+            Entry::BestRoute => &[1, 2, 3, 4, 5, 6, 7, 8, 9, 10, 16, 17],
             Entry::Drive => &[1, 2, 3, 4, 5, 11, 7, 8, 9, 12, 13, 14],
             Entry::Profile => &[1, 2, 3, 5, 11, 7, 8, 9, 12, 13, 15],
             Entry::SetOff => &[1, 2, 3, 5, 6, 7, 8, 9],
@@ -628,9 +726,25 @@ impl Entry {
     fn pairs(self) -> Vec<Pair> {
         let of_inputs: &[(u64, u64)] = match self {
             Entry::Check => &[(1, 2), (2, 7), (2, 8), (2, 9)],
-            Entry::BestRoute => {
-                &[(1, 2), (2, 3), (3, 4), (4, 5), (5, 6), (6, 7), (6, 8), (6, 9), (7, 10), (8, 10), (9, 10)]
-            }
+            Entry::BestRoute => &[
+                (1, 2),
+                (2, 3),
+                (3, 4),
+                (4, 5),
+                (5, 6),
+                (6, 7),
+                (6, 8),
+                (6, 9),
+                (7, 10),
+                (8, 10),
+                (9, 10),
+                (7, 16),
+                (8, 16),
+                (9, 16),
+                (7, 17),
+                (8, 17),
+                (9, 17),
+            ],
             Entry::Drive => {
                 &[(1, 2), (2, 3), (3, 4), (4, 5), (5, 11), (11, 7), (11, 8), (11, 9), (7, 12), (8, 12), (9, 12)]
             }
@@ -683,9 +797,53 @@ struct Tally {
     most_roads_driven: u64,
     wide_totals: u64,
     wide_sums: u64,
+    no_routes: NoRoutes,
     charges: Charges,
     refusals: BTreeMap<(Entry, u64), u64>,
     pairs: BTreeMap<(Entry, Pair), u64>,
+}
+
+/// The refusals for want of a route that a run has compared with the model.
+#[derive(Default)]
+struct NoRoutes {
+    /// Of 10, where the least start that is enough is a full battery, and where it is 2 or more above the start.
+    full: u64,
+    far_above: u64,
+    /// Of 16, where every chain of roads has one above the battery size, and where some chain has none.
+    by_one_road: u64,
+    by_all_roads: u64,
+    /// Of 17, where roads lead from the target to the source.
+    joined_backward: u64,
+}
+
+impl NoRoutes {
+    fn count(&mut self, case: &Case, refusal: Refusal) {
+        let Query { battery, start, source, target } = case.query;
+        let least = refusal.place as i64;
+        let roads_up_to = |most: i64| {
+            let mut network = model::sound_network(case.files()).expect("no other refusal was expected");
+            network.roads.retain(|road| road.consumption <= most);
+            network
+        };
+        match refusal.number {
+            10 => {
+                self.full += u64::from(least == battery);
+                self.far_above += u64::from(least >= start + 2);
+            }
+            16 if model::is_joined(&roads_up_to(battery), source, target) => self.by_all_roads += 1,
+            16 => self.by_one_road += 1,
+            17 => self.joined_backward += u64::from(model::is_joined(&roads_up_to(i64::MAX), target, source)),
+            _ => {}
+        }
+    }
+}
+
+impl std::fmt::Display for NoRoutes {
+    fn fmt(&self, out: &mut std::fmt::Formatter) -> std::fmt::Result {
+        writeln!(out, "10 with a full battery: {}, 2 or more above the start: {}", self.full, self.far_above)?;
+        writeln!(out, "16 by one road alone: {}, by all of a chain: {}", self.by_one_road, self.by_all_roads)?;
+        writeln!(out, "17 though roads lead back: {}", self.joined_backward)
+    }
 }
 
 /// The charges to set off with that a run has compared with the model. The last three are of one drawn junction a list.
@@ -804,7 +962,7 @@ impl std::fmt::Display for Tally {
         writeln!(out, "best routes where the least sum misleads: {}", self.least_sum_misleads)?;
         writeln!(out, "drives of 8,192 roads: {}", self.most_roads_driven)?;
         writeln!(out, "beyond 32 bits: {} drives, {} profiles", self.wide_totals, self.wide_sums)?;
-        write!(out, "{}", self.charges)?;
+        write!(out, "{}{}", self.no_routes, self.charges)?;
         for ((entry, number), times) in &self.refusals {
             writeln!(out, "{entry:?} refuses with {number}: {times}")?;
         }
@@ -837,7 +995,7 @@ fn input_has(case: &Case, entry: Entry, fault: u64) -> bool {
         5 if entry == Entry::SetOff => target >= junctions,
         5 => source >= junctions,
         6 => (case.room as u64) < junctions - 1,
-        10 => !leads_to_target(case),
+        10 | 16 | 17 => number_without_faults(case) == fault,
         11 => case.route.len() > 8_192,
         12 => case.route.iter().any(|entry| usize::from(*entry) >= case.roads.len() / 8),
         _ => panic!("no pair asks for fault {fault} of the input"),
@@ -885,22 +1043,11 @@ fn place_has(case: &Case, told: usize, at: usize, fault: u64) -> bool {
     }
 }
 
-/// Does any walk lead from source to target by roads between junctions that cost no more than the battery holds?
-fn leads_to_target(case: &Case) -> bool {
-    let junctions = case.nodes.len() as u64 / 4;
-    let mut reached = vec![false; junctions as usize];
-    reached[case.query.source as usize] = true;
-    let mut has_grown = true;
-    while has_grown {
-        has_grown = false;
-        for number in 0..case.roads.len() / 8 {
-            let (tail, head, consumption) = record(case, number);
-            let may_drive = tail.max(head) < junctions && consumption <= case.query.battery;
-            if may_drive && reached[tail as usize] && !reached[head as usize] {
-                reached[head as usize] = true;
-                has_grown = true;
-            }
-        }
-    }
-    reached[case.query.target as usize]
+/// The number of the best route's answer if the records at fault were not there.
+fn number_without_faults(case: &Case) -> u64 {
+    let is_sound = |number: &usize| (7..=9).all(|fault| !record_has(case, *number, fault));
+    let sound_records = (0..case.roads.len() / 8).filter(is_sound);
+    let roads: Vec<u8> = sound_records.flat_map(|number| &case.roads[8 * number..8 * number + 8]).copied().collect();
+    let files = Files { nodes: &case.nodes, roads: &roads };
+    model::best_arrival(files, case.query, case.room).map_or_else(|refusal| refusal.number, |_| 0)
 }

@@ -3,6 +3,7 @@
 use sedge::generate::{self, hill_network, nodes_file, roads_file, Record};
 use sedge::model::{self, Query, Refusal};
 use sedge::Planned;
+use std::collections::BTreeMap;
 use std::fs::{self, File, Permissions};
 use std::io::{Read, Write};
 use std::os::unix::fs::{symlink, PermissionsExt};
@@ -47,7 +48,14 @@ const SETOFF: Program = Program {
 /// Refusal 6 is not among these cases: the program lends a list with room for every network that it can read.
 #[test]
 fn outputs_are_exact() {
-    let own = vec![rows(), lines_that_are_bad(), lines_that_are_good(), networks_at_their_limits(), faults_before_10()];
+    let own = vec![
+        rows(),
+        reasons_for_no_route(),
+        lines_that_are_bad(),
+        lines_that_are_good(),
+        networks_at_their_limits(),
+        faults_before_the_route(),
+    ];
     assert_outputs(&PLAN, own);
 }
 
@@ -81,7 +89,7 @@ fn answers_while_the_input_stays_open() {
         ("a good line in pieces", &PLAN, &["10", "00 900", " ", "0 3", "\n"], PLAN.written),
         ("a good line and more", &PLAN, &["1000 900 0 3\n", "1000 700"], PLAN.written),
         ("a bad line", &PLAN, &["1000 900 0 x\n"], BAD_QUERY),
-        ("a refused line", &PLAN, &["1000 699 0 3\n"], "refused 10 0\n"),
+        ("a refused line", &PLAN, &["1000 699 0 3\n"], "refused 10 700\n"),
         ("a good line", &SETOFF, &["1000 3\n"], SETOFF.written),
         ("a good line in pieces", &SETOFF, &["10", "00", " ", "3", "\n"], SETOFF.written),
         ("a bad line", &SETOFF, &["1000 x\n"], BAD_QUERY),
@@ -99,14 +107,14 @@ fn answers_while_the_input_stays_open() {
 /// model's and driven to the numbers written.
 #[test]
 fn seeded_networks_are_answered_as_by_the_model() {
-    let (mut arrived, mut refused, mut longest) = (0, 0, 0);
+    let (mut arrived, mut refused, mut longest) = (0, BTreeMap::<u64, u64>::new(), 0);
     for case in seeded_networks() {
         let Query { battery, start, source, target } = case.query;
         let Some(line) = line_of(&[battery.into(), start.into(), source.into(), target.into()]) else { continue };
         let text = text_on(&PLAN, &case, &line);
         match model::best_arrival(case.files(), case.query, model::MOST_JUNCTIONS) {
             Err(Refusal { number, place }) => {
-                refused += 1;
+                *refused.entry(number).or_default() += 1;
                 assert_eq!(text, format!("refused {number} {place}\n"), "{case}");
             }
             Ok(arrival) => {
@@ -119,9 +127,10 @@ fn seeded_networks_are_answered_as_by_the_model() {
             }
         }
     }
-    println!("{arrived} routes, {refused} refusals, longest route {longest} roads");
+    println!("{arrived} routes, refusals by number {refused:?}, longest route {longest} roads");
     assert!(arrived >= 100, "{arrived} routes");
-    assert!(refused >= 20, "{refused} refusals");
+    assert!(refused.values().sum::<u64>() >= 20, "refusals {refused:?}");
+    assert!([10, 16, 17].iter().all(|number| refused.contains_key(number)), "refusals {refused:?}");
     assert_eq!(longest, model::MOST_JUNCTIONS - 1, "the longest route there can be");
 }
 
@@ -246,17 +255,17 @@ fn rows() -> Vec<Case> {
     let mut cases = vec![
         on_hill("start 900, 0 to 3", b"1000 900 0 3\n", PLAN.written),
         on_hill("start 700, 0 to 3", b"1000 700 0 3\n", &answer([0, 1200, 500, 0], &[0, 1, 3])),
-        on_hill("start 699, 0 to 3", b"1000 699 0 3\n", "refused 10 0\n"),
+        on_hill("start 699, 0 to 3", b"1000 699 0 3\n", "refused 10 700\n"),
         on_hill("start 300, 0 to 2", b"1000 300 0 2\n", &answer([500, 300, 500, 0], &[0, 1])),
         on_hill("start 299, 0 to 2", b"1000 299 0 2\n", &answer([199, 100, 0, 0], &[2])),
         on_hill("start 100, 0 to 2", b"1000 100 0 2\n", &answer([0, 100, 0, 0], &[2])),
-        on_hill("start 99, 0 to 2", b"1000 99 0 2\n", "refused 10 0\n"),
+        on_hill("start 99, 0 to 2", b"1000 99 0 2\n", "refused 10 100\n"),
         on_hill("start 0, 1 to 1", b"1000 0 1 1\n", &answer([0, 0, 0, 0], &[])),
         on_hill("start 1,000, 1 to 1", b"1000 1000 1 1\n", &answer([1000, 0, 0, 0], &[])),
         on_hill("battery 1,100, start 900, 0 to 3", b"1100 900 0 3\n", &answer([200, 1200, 500, 0], &[0, 1, 3])),
-        on_hill("battery 899, start 899, 0 to 3", b"899 899 0 3\n", "refused 10 0\n"),
+        on_hill("battery 899, start 899, 0 to 3", b"899 899 0 3\n", "refused 16 0\n"),
         on_hill("start 1,000, 1 to 2", b"1000 1000 1 2\n", &answer([1000, 0, 500, 500], &[1])),
-        on_hill("start 1,000, 3 to 0", b"1000 1000 3 0\n", "refused 10 0\n"),
+        on_hill("start 1,000, 3 to 0", b"1000 1000 3 0\n", "refused 17 0\n"),
     ];
     let one_road = |name: &str, potentials: &[i32], consumption: i32, line: &[u8], expected: &str| {
         let roads = roads_file(&[Record { tail: 0, head: 1, consumption }]);
@@ -272,6 +281,29 @@ fn rows() -> Vec<Case> {
     let alone = answer([3, 0, 0, 0], &[]);
     cases.push(with_files("one junction, no roads", one_junction, hill_roads_of(0), b"10 3 0 0\n", &alone));
     cases
+}
+
+/// By hand: why there is no route, on both sides of the lines between the reasons.
+fn reasons_for_no_route() -> Vec<Case> {
+    let two_junctions = || Content::Bytes(nodes_file(&[0, 0]));
+    let dearest = || Content::Bytes(roads_file(&[Record { tail: 0, head: 1, consumption: 200_000_000 }]));
+    let on_dearest =
+        |name: &str, line: &[u8], expected: &str| with_files(name, two_junctions(), dearest(), line, expected);
+    vec![
+        on_hill("no charge, 0 to 3", b"1000 0 0 3\n", "refused 10 700\n"),
+        on_hill("start 899, 2 to 3", b"1000 899 2 3\n", "refused 10 900\n"),
+        on_hill("full battery needed, 2 to 3", b"900 899 2 3\n", "refused 10 900\n"),
+        on_hill("battery one too small, 2 to 3", b"899 899 2 3\n", "refused 16 0\n"),
+        on_hill("battery one too small, no charge", b"899 0 1 3\n", "refused 16 0\n"),
+        on_hill("battery one too small, 0 to 2", b"99 99 0 2\n", "refused 16 0\n"),
+        on_hill("the roads lead the other way", b"1000 1000 2 1\n", "refused 17 0\n"),
+        on_hill("the smallest battery, 0 to 3", b"1 0 0 3\n", "refused 16 0\n"),
+        on_hill("the smallest battery, 3 to 0", b"1 0 3 0\n", "refused 17 0\n"),
+        on_dearest("the widest place", b"200000000 199999999 0 1\n", "refused 10 200000000\n"),
+        on_dearest("the widest place, no charge", b"200000000 0 0 1\n", "refused 10 200000000\n"),
+        on_dearest("one less than the widest", b"199999999 199999999 0 1\n", "refused 16 0\n"),
+        on_dearest("the dearest road back", b"200000000 200000000 1 0\n", "refused 17 0\n"),
+    ]
 }
 
 fn lines_that_are_bad() -> Vec<Case> {
@@ -541,7 +573,7 @@ fn networks_at_their_limits() -> Vec<Case> {
     let no_roads = || hill_roads_of(0);
     let (still, around) = (answer([5, 0, 0, 0], &[]), answer([900, 0, 0, 0], &[]));
     vec![
-        with_files("roads.bin is empty", hill_nodes(), no_roads(), b"1000 900 0 3\n", "refused 10 0\n"),
+        with_files("roads.bin is empty", hill_nodes(), no_roads(), b"1000 900 0 3\n", "refused 17 0\n"),
         with_files("no roads are needed", hill_nodes(), no_roads(), b"9 5 2 2\n", &still),
         with_files("both at their limits", nodes(), roads, b"1000 900 0 0\n", &around),
         with_files("the last junction", nodes(), no_roads(), b"9 5 2047 2047\n", &still),
@@ -600,9 +632,11 @@ fn faults(program: &Program) -> Vec<Case> {
 }
 
 /// A fault of a record where there would be no route, or nothing to drive.
-fn faults_before_10() -> Vec<Case> {
+fn faults_before_the_route() -> Vec<Case> {
     let gains = || hill_roads_with(&[(1, GAINS)]);
     vec![
+        with_files("9 though the start is too low", hill_nodes(), gains(), b"1000 99 0 2\n", "refused 9 1\n"),
+        with_files("9 though the battery is too small", hill_nodes(), gains(), b"899 899 0 3\n", "refused 9 1\n"),
         with_files("9 though no road leads there", hill_nodes(), gains(), b"9 9 3 0\n", "refused 9 1\n"),
         with_files("9 though source is target", hill_nodes(), gains(), b"9 9 0 0\n", "refused 9 1\n"),
     ]

@@ -36,7 +36,7 @@ record SameMeeting (M f g f' g' : ℕ) : Type 0 where
 
 steps-meet : (M : ℕ) (r : Road) (f g : ℕ) → f ≤ M + 1 → g ≤ M + 1 → SameMeeting M f g (stepForward M r f) (stepBackward M r g)
 steps-meet M r zero g hf hg =
-    let b = step-le Backward M r g hg in
+    let b = step-le Backward M r g in
     record { to-tail = λ m. absurd (omega (arith, m .above)); to-head = λ m. absurd (omega (arith, m .above)) }
 steps-meet M r (suc f) zero hf hg =
     let b = forward-capped M r .some (suc f) (omega arith) in
@@ -84,7 +84,7 @@ walk-meets M rs (k ∷ ks) f g hf hg =
     let x = stepForward M r f in
     let y = back M rs ks g in
     let e = back-then M rs k ks g in
-    let rest = walk-meets M rs ks x g (step-le Forward M r f hf) hg in
+    let rest = walk-meets M rs ks x g (omega (arith, step-le Forward M r f)) hg in
     let one = steps-meet M r f y hf (back-le M rs ks g hg) in
     record {
       to-tail = λ m. subst (λ (z : ℕ). Meets M f z) (sym e) (one .to-tail (rest .to-tail m));

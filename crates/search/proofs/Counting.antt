@@ -22,7 +22,7 @@ unsettled-waits L K v h t = go (ℕ-discrete (K v) 0)
     go (yes z) = absurd (t (record { labelled = h; taken = z }))
     go (no z) = omega arith
 
-due-none : (l k : ℕ) → 0 < l → k ≡ 0 → due l k ≡ 0
+pub due-none : (l k : ℕ) → 0 < l → k ≡ 0 → due l k ≡ 0
 due-none zero k p q = absurd (omega arith)
 due-none (suc l) zero p q = refl
 due-none (suc l) (suc k) p q = absurd (omega arith)

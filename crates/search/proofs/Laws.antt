@@ -6,6 +6,7 @@ use mathlib.Core.Bool.{true}
 use mathlib.Core.List.{List, [], _∷_}
 use Prim.Native.Nat.{ℕ, zero, suc, _+_, _-_, _≤_, _<_}
 use native.Mathlib.Omega.{arith}
+use Rattle.numbers.specs.Signed.{draw, gain}
 use Rattle.battery.specs.declared.Road.{Road}
 use Rattle.network.proofs.Closed.{checked-passing}
 use Rattle.network.proofs.Records.{Sound, all-sound}
@@ -15,52 +16,44 @@ use Rattle.search.specs.Reading.{entered, left, stepOf, psiOf, psi, net}
 use Rattle.search.specs.Steps.{Readable}
 use Rattle.search.specs.declared.Reading.{Reading}
 use Rattle.search.specs.declared.Sense.{Sense}
-use Rattle.search.specs.declared.Sense.the-variants.{Forward, Backward, Joining}
-use Rattle.search.proofs.Capped.{capped-mono, capped-gain, capped-le}
+use Rattle.search.specs.declared.Sense.the-variants.{Forward, Backward}
+use Rattle.search.proofs.Capped.{Capped, capped-mono, capped-gain, capped-le}
 use Rattle.search.proofs.StepForward.{forward-capped, potential-le, forward-falls}
 use Rattle.search.proofs.StepBackward.{backward-capped, potential-ge, backward-falls}
 
 -- ---- every sense
 
-module _ (M : ℕ) (r : Road) where
-  step-none : (s : Sense) → stepOf s M r 0 ≡ 0
-  step-none Forward = forward-capped M r .none
-  step-none Backward = backward-capped M r .none
-  step-none Joining = refl
+abbrev capOf : Sense → ℕ → Road → ℕ
+capOf Forward M r = M + 1
+capOf Backward M r = M + 1 - draw (r .consumption)
 
-  step-mono : (s : Sense) (l l' : ℕ) → l ≤ l' → stepOf s M r l ≤ stepOf s M r l'
-  step-mono Forward = capped-mono (forward-capped M r)
-  step-mono Backward = capped-mono (backward-capped M r)
-  step-mono Joining = λ l l' h. h
+step-capped : (s : Sense) (M : ℕ) (r : Road)
+    → Capped (stepOf s M r) (gain (r .consumption)) (draw (r .consumption)) (capOf s M r)
+step-capped Forward M r = forward-capped M r
+step-capped Backward M r = backward-capped M r
 
-pub step-le : (s : Sense) (M : ℕ) (r : Road) (l : ℕ) → l ≤ M + 1 → stepOf s M r l ≤ M + 1
-step-le Forward M r l h = capped-le (forward-capped M r) l
-step-le Backward M r l h = omega (arith, capped-le (backward-capped M r) l)
-step-le Joining M r l h = h
+pub step-le : (s : Sense) (M : ℕ) (r : Road) (l : ℕ) → stepOf s M r l ≤ M + 1
+step-le Forward M r l = capped-le (step-capped Forward M r) l
+step-le Backward M r l = omega (arith, capped-le (step-capped Backward M r) l)
 
 -- a road that passes gains no more than the numbers of its ends fall
 abbrev Passes : List ℕ → Road → Type 0
 Passes ns r = passes (r .consumption) (potential ns (r .tail)) (potential ns (r .head)) ≡ true
 
-step-gain : (s : Sense) (M : ℕ) (ns : List ℕ) (r : Road) (l : ℕ) → Passes ns r → 0 < stepOf s M r l
-    → stepOf s M r l + psiOf s (potential ns (left s r)) ≤ l + psiOf s (potential ns (entered s r))
-step-gain Forward M ns r l e h =
-    let f = forward-falls (r .consumption) (potential ns (r .tail)) (potential ns (r .head)) e (potential-le ns (r .tail)) (potential-le ns (r .head)) in
-    capped-gain (forward-capped M r) l _ _ f h
-step-gain Backward M ns r l e h =
-    let f = backward-falls (r .consumption) (potential ns (r .tail)) (potential ns (r .head)) e (potential-ge ns (r .tail)) (potential-ge ns (r .head)) in
-    capped-gain (backward-capped M r) l _ _ f h
-step-gain Joining M ns r l e h = omega arith
+falls : (s : Sense) (ns : List ℕ) (r : Road) → Passes ns r
+    → psiOf s (potential ns (left s r)) + gain (r .consumption) ≤ psiOf s (potential ns (entered s r)) + draw (r .consumption)
+falls Forward ns r e =
+    forward-falls (r .consumption) (potential ns (r .tail)) (potential ns (r .head)) e (potential-le ns (r .tail)) (potential-le ns (r .head))
+falls Backward ns r e =
+    backward-falls (r .consumption) (potential ns (r .tail)) (potential ns (r .head)) e (potential-ge ns (r .tail)) (potential-ge ns (r .head))
 
 left-in : (s : Sense) (ns : List ℕ) (r : Road) → Sound ns r → left s r < junctions ns
 left-in Forward ns r sound = sound .head-lt
 left-in Backward ns r sound = sound .tail-lt
-left-in Joining ns r sound = sound .tail-lt
 
 entered-in : (s : Sense) (ns : List ℕ) (r : Road) → Sound ns r → entered s r < junctions ns
 entered-in Forward ns r sound = sound .tail-lt
 entered-in Backward ns r sound = sound .head-lt
-entered-in Joining ns r sound = sound .head-lt
 
 -- ---- the roads of a file
 
@@ -78,16 +71,17 @@ pub laws-of : (rd : Reading) (ns rs : List ℕ) → Passing ns rs → Laws (net 
 unfolding net
 laws-of rd ns rs a =
     record {
-      none = λ k. step-none (rd .battery) (roadOf rs k) (rd .sense);
-      mono = λ k. step-mono (rd .battery) (roadOf rs k) (rd .sense);
-      no-gain = λ k l h. step-gain (rd .sense) (rd .battery) ns (roadOf rs k) l (a .pass k h);
+      none = λ k. step-capped (rd .sense) (rd .battery) (roadOf rs k) .none;
+      mono = λ k. capped-mono (step-capped (rd .sense) (rd .battery) (roadOf rs k));
+      no-gain =
+          λ k l h. capped-gain (step-capped (rd .sense) (rd .battery) (roadOf rs k)) l _ _ (falls (rd .sense) ns (roadOf rs k) (a .pass k h));
     }
 
 -- no label is greater than a full battery
 pub after-le : (rd : Reading) (rs ks : List ℕ) (l : ℕ) → l ≤ rd .battery + 1 → after (net rd rs) ks l ≤ rd .battery + 1
 unfolding net
 after-le rd rs [] l h = h
-after-le rd rs (k ∷ ks) l h = after-le rd rs ks _ (step-le (rd .sense) (rd .battery) (roadOf rs k) l h)
+after-le rd rs (k ∷ ks) l h = after-le rd rs ks _ (step-le (rd .sense) (rd .battery) (roadOf rs k) l)
 
 pub best-le : (rd : Reading) (rs : List ℕ) (s l v x : ℕ) → l ≤ rd .battery + 1 → Best (net rd rs) s l v x → x ≤ rd .battery + 1
 best-le rd rs s l v zero h b = omega arith

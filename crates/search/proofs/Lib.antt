@@ -22,6 +22,8 @@ mod Exploring
 mod Starting
 mod Clearing
 mod Seeking
-mod Joining
+mod Listing
+mod Marking
+mod Reaching
 mod Reasoning
 mod Finding

@@ -61,7 +61,7 @@ module _ (rd : Reading) (ns rs : List ℕ) (k label : ℕ) (labels ways queue : 
           → Dec (u ≡ v) → entry labels' u ≤ rd .battery + 1
       bounded u (passed h same ways-same keys-same) d = omega (arith, same u, a .underway .bounded u)
       bounded u (taken h put ways-put keys-put) (yes e) =
-          omega (arith, ap (entry labels') e, put .here, x-is, step-le (rd .sense) (rd .battery) road label (a .label-le))
+          omega (arith, ap (entry labels') e, put .here, x-is, step-le (rd .sense) (rd .battery) road label)
       bounded u (taken h put ways-put keys-put) (no e) = omega (arith, put .rest u e, a .underway .bounded u)
 
       real : (u : ℕ)

@@ -13,32 +13,32 @@ use Rattle.search.specs.Chains.{Unchained, Chained, ChainAsks}
 use Rattle.search.specs.Found.{Labels}
 use Rattle.search.specs.Reading.{net}
 use Rattle.search.specs.Searches.{SetsOut, ExploreAsks, Explored, Lent, SeekAsks, ClearAsks, AgainAsks}
+use Rattle.search.specs.Steps.{Readable}
 use Rattle.search.specs.declared.Reading.{Reading}
 use Rattle.search.specs.declared.Trip.{Trip}
 use Rattle.search.proofs.Laws.{tails-in, count-is}
 
-module _ (rd : Reading) (ns rs : List ℕ) (trip : Trip) (chains labels ways queue : List ℕ)
-    (a : SeekAsks rd ns rs trip chains labels ways queue) where
-  pub chain-asks : ChainAsks (net rd rs .roads) chains
-  chain-asks =
-      let r = a .sets-out .readable in
-      record {
-        few = omega (arith, count-is rd rs, r .few-roads);
-        within = λ k h. omega (arith, tails-in rd ns rs r k (omega (arith, count-is rd rs)), r .few);
-        long = a .lent .long;
-        empty = a .no-road;
-      }
+pub chain-asks : (rd : Reading) (ns rs chains : List ℕ) → Readable (rd .battery) ns rs → length chains ≡ mostJunctions + mostRoads
+    → Unchained chains → ChainAsks (net rd rs .roads) chains
+chain-asks rd ns rs chains r long none =
+    record {
+      few = omega (arith, count-is rd rs, r .few-roads);
+      within = λ k h. omega (arith, tails-in rd ns rs r k (omega (arith, count-is rd rs)), r .few);
+      long = long;
+      empty = none;
+    }
 
-  pub explore-asks : (chains' : List ℕ) → Chained (net rd rs .roads) (roadCount rs) chains'
-      → ExploreAsks rd ns rs chains' trip labels ways queue
-  explore-asks chains' c =
-      record {
-        sets-out = a .sets-out;
-        chained = c;
-        sized = a .lent .sized;
-        no-label = a .no-label;
-        no-key = a .no-key;
-      }
+pub explore-asks : (rd : Reading) (ns rs : List ℕ) (trip : Trip) (chains labels ways queue : List ℕ)
+    → SeekAsks rd ns rs trip chains labels ways queue → (chains' : List ℕ) → Chained (net rd rs .roads) (roadCount rs) chains'
+    → ExploreAsks rd ns rs chains' trip labels ways queue
+explore-asks rd ns rs trip chains labels ways queue a chains' c =
+    record {
+      sets-out = a .sets-out;
+      chained = c;
+      sized = a .lent .sized;
+      no-label = a .no-label;
+      no-key = a .no-key;
+    }
 
 -- ---- new lists, which are all 0
 
@@ -74,9 +74,7 @@ pub labels-all : (N : Net) (n : ℕ) (trip : Trip) (labels ways queue : List ℕ
 labels-all N n trip labels ways queue long t e =
     record { long = long; best = λ v. e .best v (inr (List·getD-eq-default labels 0 (omega arith))) }
 
--- ---- lists of another search
-
--- the same sizes
+-- lists of the same sizes
 pub lent-on : {chains labels ways queue : List ℕ} {chains' labels' ways' queue' : List ℕ} → Lent chains labels ways queue
     → length chains' ≡ length chains → length labels' ≡ length labels → length ways' ≡ length ways → length queue' ≡ length queue
     → Lent chains' labels' ways' queue'

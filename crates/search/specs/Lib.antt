@@ -5,3 +5,4 @@ pub mod Trails
 pub mod Chains
 pub mod Steps
 pub mod Searches
+pub mod Marks

@@ -13,29 +13,24 @@ use Rattle.battery.specs.declared.Road.{Road}
 use Rattle.network.specs.Files.{roadCount, roadOf, potential}
 use Rattle.walks.specs.Label.{Net}
 use Rattle.search.specs.declared.Sense.{Sense}
-use Rattle.search.specs.declared.Sense.the-variants.{Forward, Backward, Joining}
+use Rattle.search.specs.declared.Sense.the-variants.{Forward, Backward}
 use Rattle.search.specs.declared.Reading.{Reading}
 
--- the three readings, with a battery of size M
+-- the two readings, with a battery of size M
 abbrev pub forward : ℕ → Reading
 forward M = record { sense = Forward; battery = M }
 
 abbrev pub backward : ℕ → Reading
 backward M = record { sense = Backward; battery = M }
 
-abbrev pub joining : ℕ → Reading
-joining M = record { sense = Joining; battery = M }
-
 -- the junction where a road is entered, and the one where it is left
 abbrev pub entered : Sense → Road → ℕ
 entered Forward r = r .tail
 entered Backward r = r .head
-entered Joining r = r .head
 
 abbrev pub left : Sense → Road → ℕ
 left Forward r = r .head
 left Backward r = r .tail
-left Joining r = r .tail
 
 abbrev pub labelIf : Bool → ℕ → ℕ
 labelIf true b = suc b
@@ -60,11 +55,10 @@ abbrev pub chargeOf : ℕ → ℕ → ℤ
 chargeOf M zero = negsuc 0
 chargeOf M (suc x) = pos (M - x)
 
--- what a road brings, from a label where it is entered; joining, the same label
+-- what a road brings, from a label where it is entered
 abbrev pub stepOf : Sense → ℕ → Road → ℕ → ℕ
 stepOf Forward M r l = stepForward M r l
 stepOf Backward M r l = stepBackward M r l
-stepOf Joining M r l = l
 
 -- the largest potential and, one further from 0, the least
 abbrev pub mostPotential : ℕ
@@ -83,7 +77,6 @@ psiBackward p = draw (p -ℤ leastPotential)
 abbrev pub psiOf : Sense → ℤ → ℕ
 psiOf Forward p = psiForward p
 psiOf Backward p = psiBackward p
-psiOf Joining p = 0
 
 abbrev pub psi : Reading → List ℕ → ℕ → ℕ
 psi rd ns v = psiOf (rd .sense) (potential ns v)

@@ -55,6 +55,7 @@ pub record ClearAsks (chains labels : List ℕ) : Type 0 where
   pub long-chains : length chains ≡ mostJunctions + mostRoads
   pub long-labels : length labels ≡ mostJunctions
 
+-- nothing waits; roads, labels and ways of another search may still be there
 pub record AgainAsks (rd : Reading) (ns rs : List ℕ) (trip : Trip) (chains labels ways queue : List ℕ) : Type 0 where
   pub sets-out : SetsOut rd ns rs (trip .source) (trip .label)
   pub target-in : trip .target < junctions ns

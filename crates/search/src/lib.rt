@@ -11,18 +11,17 @@ ghost use Rattle.search.specs.Found.{Finds, Labels};
 ghost use Rattle.search.specs.Reading.{entered, left, stepForward, stepBackward, stepOf, psiForward, psiBackward, psiOf, psi, net};
 ghost use Rattle.search.specs.Steps.{StepAsks, better, packed, KeyAsks, OfferAsks, Offered, RelaxAsks, RelaxKeeps, SpreadAsks, SpreadKeeps};
 ghost use Rattle.search.specs.Searches.{ExploreAsks, Explored, SeekAsks, ClearAsks, AgainAsks, FindAsks, ReasonAsks, LabelAsks};
+ghost use Rattle.search.specs.Marks.{LeadAsks, Leads, ReachAsks, Reaches, MarkAsks, Marks};
 ghost use Rattle.search.specs.Trails.{Trailed, Counted, WriteAsks, Written};
 use battery::Road;
 use network::Refusal;
 
 // In which sense roads are read: forward, from tail to head, a label being the charge that a van
-// has, plus one; backward, from head to tail, a label being the slack, which is the battery size less
-// the charge that a van needs, plus one; or joining, from head to tail, where a road takes nothing
-// and every label is the first one.
+// has, plus one; or backward, from head to tail, a label being the slack, which is the battery size
+// less the charge that a van needs, plus one.
 pub enum Sense {
     Forward,
     Backward,
-    Joining,
 }
 
 // How roads are read.
@@ -134,8 +133,8 @@ pub fn label_all(
     );
 }
 
-// Why no walk of the trip is feasible. Two searches back from its target: one for the least charge to
-// set off with; where no charge does, one for a chain of roads.
+// Why no walk of the trip is feasible: a search back from its target for the least charge to set off
+// with; where no charge does, whether roads join the source to the target.
 fn reason(
     nodes: &[u8],
     roads: &[u8],
@@ -149,25 +148,20 @@ fn reason(
     requires { ⌜ ReasonAsks battery (now nodes) (now roads) trip (now chains) (now labels) (now ways) (now queue) ⌝ }
     ensures { λ r. ⌜ Reason battery (now (roads .entry)) (trip .source) (trip .target) r ⌝ }
 {
+    let backward = Reading {
+        sense: Sense::Backward,
+        battery,
+    };
     let back = Trip {
         source: trip.target,
         label: battery + 1,
         target: trip.source,
     };
-    let backward = Reading {
-        sense: Sense::Backward,
-        battery,
-    };
     let slack = seek_again(nodes, roads, backward, back, chains, labels, ways, queue);
     if 0 < slack {
         return Refusal::MoreCharge(battery + 1 - slack);
     }
-    let joining = Reading {
-        sense: Sense::Joining,
-        battery,
-    };
-    let joined = seek_again(nodes, roads, joining, back, chains, labels, ways, queue);
-    if 0 < joined {
+    if leads(roads, backward, back, chains, labels, ways) {
         Refusal::NeverEnough
     } else {
         Refusal::NotJoined
@@ -187,12 +181,82 @@ fn seek_again(
 ) -> u32
     requires { ⌜ AgainAsks reading (now nodes) (now roads) trip (now chains) (now labels) (now ways) (now queue) ⌝ }
     ensures { λ r. ⌜ Best (net reading (now (roads .entry))) (trip .source) (trip .label) (trip .target) r ⌝ }
-    ensures { λ r. ⌜ (r ≡ 0 → AllZero (now (queue .exit))) ⌝ }
 {
     clear(chains, labels);
     seek(nodes, roads, reading, trip, chains, labels, ways, queue);
     let target = trip.target;
     labels[target]
+}
+
+// Whether roads, so read, lead from the trip's source to its target, whatever they take.
+fn leads(
+    roads: &[u8],
+    reading: Reading,
+    trip: Trip,
+    chains: &mut [u16],
+    labels: &mut [u32],
+    ways: &mut [u16],
+) -> bool
+    requires { ⌜ LeadAsks (net reading (now roads) .roads) trip (now chains) (now labels) (now ways) ⌝ }
+    ensures { λ r. ⌜ Leads (net reading (now (roads .entry)) .roads) (trip .source) (trip .target) r ⌝ }
+{
+    clear(chains, labels);
+    chain(roads, reading, chains);
+    reach(roads, reading, chains, trip.source, labels, ways);
+    let target = trip.target;
+    0 < labels[target]
+}
+
+// Marks with the label 1 every junction that roads, so read, lead to from the source. The ways list
+// the junctions that are marked; the roads of the first ones are followed.
+fn reach(
+    roads: &[u8],
+    reading: Reading,
+    chains: &[u16],
+    source: usize,
+    labels: &mut [u32],
+    ways: &mut [u16],
+)
+    requires { ⌜ ReachAsks (net reading (now roads) .roads) (now chains) source (now labels) (now ways) ⌝ }
+    ensures { λ _. ⌜ Reaches (net reading (now (roads .entry)) .roads) source (now (labels .exit)) ⌝ }
+{
+    labels[source] = 1;
+    ways[0] = source as u16;
+    let mut last = 1;
+    let mut first = 0;
+    while first < last {
+        let u = ways[first] as usize;
+        last = mark(roads, reading, chains, u, labels, ways, last);
+        first += 1;
+    }
+}
+
+// Marks the junctions where the roads that are entered at u are left, and lists them from `last` on.
+fn mark(
+    roads: &[u8],
+    reading: Reading,
+    chains: &[u16],
+    u: usize,
+    labels: &mut [u32],
+    ways: &mut [u16],
+    last: usize,
+) -> usize
+    requires { ⌜ MarkAsks (net reading (now roads) .roads) (now chains) u (now labels) (now ways) last ⌝ }
+    ensures { λ r. ⌜ Marks (net reading (now (roads .entry)) .roads) u 0 (now (labels .entry)) (now (ways .entry)) last (now (labels .exit)) (now (ways .exit)) r ⌝ }
+{
+    let mut end = last;
+    let mut next = chains[u] as usize;
+    while 0 < next {
+        let k = next - 1;
+        let v = reading.left(network::road_at(roads, k));
+        if labels[v] == 0 {
+            labels[v] = 1;
+            ways[end] = v as u16;
+            end += 1;
+        }
+        next = chains[network::MOST_JUNCTIONS + k] as usize;
+    }
+    end
 }
 
 // Takes every road off its chain and every label away.
@@ -421,7 +485,6 @@ impl Reading {
         match sense {
             Sense::Forward => road.tail as usize,
             Sense::Backward => road.head as usize,
-            Sense::Joining => road.head as usize,
         }
     }
 
@@ -433,7 +496,6 @@ impl Reading {
         match sense {
             Sense::Forward => road.head as usize,
             Sense::Backward => road.tail as usize,
-            Sense::Joining => road.tail as usize,
         }
     }
 
@@ -446,7 +508,6 @@ impl Reading {
         match sense {
             Sense::Forward => step_forward(self.battery, road, label),
             Sense::Backward => step_backward(self.battery, road, label),
-            Sense::Joining => label,
         }
     }
 
@@ -458,7 +519,6 @@ impl Reading {
         match sense {
             Sense::Forward => below_most(potential),
             Sense::Backward => above_least(potential),
-            Sense::Joining => 0,
         }
     }
 }

@@ -8,7 +8,7 @@ abbrev pub turned : Roads → Roads
 turned R = record { count = R .count; tail = R .head; head = R .tail }
 
 -- one more road at the end
-walk-then : {R : Roads} {u v : ℕ} {ks : List ℕ} → Walk R u ks v → (k : ℕ) → k < R .count → R .tail k ≡ v
+pub walk-then : {R : Roads} {u v : ℕ} {ks : List ℕ} → Walk R u ks v → (k : ℕ) → k < R .count → R .tail k ≡ v
     → Walk R u (ks ++ (k ∷ [])) (R .head k)
 walk-then stay k h e = go k h e stay
 walk-then (go j l f w) k h e = go j l f (walk-then w k h e)

@@ -5,7 +5,9 @@ use Rattle.search.proofs.seek.Statement.{statement}
 use Rattle.search.proofs.seek.Tie as tie
 
 chain-requires : tie.Need-chain-requires
-chain-requires c κs = chain-asks _ _ _ _ _ _ _ _ (c .before .before .before .before .before .before .before .pre)
+chain-requires c κs =
+    let start = c .before .before .before .before .before .before .before in
+    chain-asks _ _ _ _ (start .pre .sets-out .readable) (start .pre .lent .long) (start .pre .no-road)
 
 explore-requires : tie.Need-explore-requires
 explore-requires c κs =

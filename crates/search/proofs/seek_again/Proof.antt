@@ -34,9 +34,7 @@ slice-read-result c =
     )
 
 returns : tie.Need-returns
-returns c =
-    let x = c .before .before .before .before .before .before .before .before .before .seek in
-    (best-target _ _ _ _ _ _ (x .ensures), x .ensures .emptied)
+returns c = best-target _ _ _ _ _ _ (c .before .before .before .before .before .before .before .before .before .seek .ensures)
 
 pub seek-again-spec : {M : Type 1} → statement M
 seek-again-spec =

@@ -85,7 +85,7 @@ impl Road {
 }
 
 impl Refusal {
-    /// There is no route.
+    /// There is no route; none of them asks why.
     pub const NO_ROUTE: Refusal = Refusal { number: 10, place: 0 };
 
     /// The answer that says so, with zero for all other numbers.

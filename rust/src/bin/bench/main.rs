@@ -30,7 +30,7 @@ fn main() -> Result<(), String> {
             let times = times.parse().map_err(|_| format!("not a number: {times}"))?;
             queries::count(&found(name)?, implementation, times)?
         }
-        ["stack"] => stack::print(&found("hill")?.drawings[0]),
+        ["stack"] => stack::print(&found("hill")?.drawings[0], &found("hill-16")?.drawings[0]),
         ["programs", plan, reads] => programs::compare(&found("hill")?.drawings[0], plan, reads)?,
         _ => return Err(USAGE.to_string()),
     }

@@ -6,8 +6,11 @@ use sedge::Files;
 /// How often each network is drawn. A cab asks a network once, so no implementation may learn its branches by heart.
 const DRAWINGS: u64 = 16;
 
-/// What makes one drawing of a network: the question with a route and the one without.
-type Draw = fn(Dice) -> [Question; 2];
+/// The numbers of the answers to the questions about a network: a route, and the three reasons why there is none.
+pub const NUMBERS: [u64; 4] = [0, 10, 16, 17];
+
+/// What makes one drawing of a network: the questions with these answers.
+type Draw = fn(Dice) -> [Question; 4];
 
 /// The networks by name, the full-size ones first.
 const KINDS: [(&str, Draw); 6] =
@@ -19,8 +22,8 @@ pub struct Case {
     pub drawings: Vec<Question>,
 }
 
-/// A best-route question about a network, and the number of its answer: 0, or 10 where there is no route. The depot,
-/// for charges to set off with, is the target of the question with a route.
+/// A best-route question about a network, and the number of its answer. The depot, for charges to set off with, is the
+/// target of the question with a route.
 pub struct Question {
     network: Network,
     pub battery: i64,
@@ -40,6 +43,7 @@ struct Network {
 }
 
 /// From where to where, and with what charge.
+#[derive(Clone, Copy)]
 struct Ask {
     start: i64,
     source: usize,
@@ -49,7 +53,7 @@ struct Ask {
 /// A seeded source of numbers (splitmix64).
 struct Dice(u64);
 
-/// Every case, the full-size networks first.
+/// Every case, the full-size networks first, those of one network in the order of their numbers.
 pub fn cases() -> Vec<Case> {
     KINDS.iter().flat_map(|&(name, draw)| drawn(name, draw)).collect()
 }
@@ -60,10 +64,16 @@ pub fn named(name: &str) -> Option<Case> {
     kinds.flat_map(|&(kind, draw)| drawn(kind, draw)).find(|case| case.name == name)
 }
 
-/// All drawings of a network: the case with a route and the one without.
-fn drawn(name: &str, draw: Draw) -> [Case; 2] {
-    let (with, without) = (0..DRAWINGS).map(|seed| draw(Dice(seed)).into()).unzip();
-    [Case { name: name.to_string(), drawings: with }, Case { name: format!("{name}-none"), drawings: without }]
+/// All drawings of a network: the case with a route, by its name alone, and those without.
+fn drawn(name: &str, draw: Draw) -> [Case; 4] {
+    let called = |number| if number == 0 { name.to_string() } else { format!("{name}-{number}") };
+    let mut cases = NUMBERS.map(|number| Case { name: called(number), drawings: Vec::new() });
+    for seed in 0..DRAWINGS {
+        for (case, question) in cases.iter_mut().zip(draw(Dice(seed))) {
+            case.drawings.push(question);
+        }
+    }
+    cases
 }
 
 impl Case {
@@ -72,9 +82,14 @@ impl Case {
         format!("{} {}/{}", self.name, self.junctions(), self.drawings[0].files().roads.len() / 8)
     }
 
+    /// The number of the answers.
+    pub fn number(&self) -> u64 {
+        self.drawings[0].number
+    }
+
     /// Whether it is the case with a route.
     pub fn has_route(&self) -> bool {
-        self.drawings[0].number == 0
+        self.number() == 0
     }
 
     fn junctions(&self) -> usize {
@@ -119,10 +134,17 @@ impl Network {
         self.roads.extend(consumption.to_le_bytes());
     }
 
-    /// The question with a route and the one without.
-    fn asked(self, battery: i64, with: Ask, without: Ask) -> [Question; 2] {
+    /// Closes all roads to this junction.
+    fn close(&mut self, head: usize) {
+        let open = self.roads.chunks_exact(8).filter(|record| record[2..4] != (head as u16).to_le_bytes());
+        self.roads = open.flatten().copied().collect();
+    }
+
+    /// The question with a route, the one with a start that is too low, the same with a battery that holds no more than
+    /// that start, and the one between junctions that no chain of roads joins.
+    fn asked(self, battery: i64, with: Ask, low: Ask, apart: Ask) -> [Question; 4] {
         let depot = with.target as u64;
-        let question = |ask: Ask, number| Question {
+        let question = |number, battery, ask: Ask| Question {
             network: self.clone(),
             battery,
             start: ask.start,
@@ -131,7 +153,25 @@ impl Network {
             depot,
             number,
         };
-        [question(with, 0), question(without, 10)]
+        let [route, more_charge, never_enough, not_joined] = NUMBERS;
+        [
+            question(route, battery, with),
+            question(more_charge, battery, low),
+            question(never_enough, low.start, low),
+            question(not_joined, battery, apart),
+        ]
+    }
+
+    /// The same from junction 0, where all roads to `far` are long and none leads to `apart`.
+    fn asked_from_0(self, far: usize, apart: usize) -> [Question; 4] {
+        let ask = |start, target| Ask { start, source: 0, target };
+        let low = ask(self.climb(0, far) + LONG as i64, far);
+        self.asked(40_000_000, ask(35_000_000, far), low, ask(35_000_000, apart))
+    }
+
+    /// What the climb alone takes between two junctions.
+    fn climb(&self, source: usize, target: usize) -> i64 {
+        (self.potentials[source] - self.potentials[target]) as i64
     }
 }
 
@@ -160,9 +200,10 @@ impl Dice {
     }
 }
 
-/// A grid of 64 by 32 junctions over a dozen hills, each joined with its neighbours by roads both ways. The start
-/// without a route would just lift the van to the highest junction, with nothing left for the way.
-fn hill(mut dice: Dice) -> [Question; 2] {
+/// A grid of 64 by 32 junctions over a dozen hills, each joined with its neighbours by roads both ways. The low start
+/// would just lift the van to the highest junction, with nothing left for the way; where that is apart, the roads to it
+/// are closed.
+fn hill(mut dice: Dice) -> [Question; 4] {
     const WIDE: usize = 64;
     const HIGH: usize = 32;
     /// What the van takes for a metre of climb, and for a metre of flat road.
@@ -186,41 +227,42 @@ fn hill(mut dice: Dice) -> [Question; 2] {
     }
     let (source, corner) = (0, WIDE * HIGH - 1);
     let highest = (source..=corner).min_by_key(|&v| network.potentials[v]).unwrap_or(corner);
-    let climb = (network.potentials[source] - network.potentials[highest]) as i64;
     let with = Ask { start: 15_000_000, source, target: corner };
-    let without = Ask { start: climb, source, target: highest };
-    network.asked(40_000_000, with, without)
+    let low = Ask { start: network.climb(source, highest), source, target: highest };
+    let mut questions = network.asked(40_000_000, with, low, Ask { start: 40_000_000, ..low });
+    questions[3].network.close(highest);
+    questions
 }
 
 /// Roads between any two junctions, full size.
-fn country(dice: Dice) -> [Question; 2] {
+fn country(dice: Dice) -> [Question; 4] {
     random(dice, MOST_JUNCTIONS, MOST_ROADS)
 }
 
 /// Roads between any two junctions of a small network.
-fn town(dice: Dice) -> [Question; 2] {
+fn town(dice: Dice) -> [Question; 4] {
     random(dice, 64, 200)
 }
 
 /// A ring through all junctions but the last, to which no road leads, and roads between any two. All roads to the last
-/// junction but one are long, so that it is reached late.
-fn random(mut dice: Dice, junctions: usize, roads: usize) -> [Question; 2] {
+/// junction but one are long, so that it is reached late; the low start would just do for its climb and a long road.
+fn random(mut dice: Dice, junctions: usize, roads: usize) -> [Question; 4] {
     let mut network = Network::new(dice.potentials(junctions));
     let (far, apart) = (junctions - 2, junctions - 1);
     for k in 0..roads {
         let (tail, head) = if k < apart { (k, (k + 1) % apart) } else { (dice.below(junctions), dice.below(apart)) };
         network.add(tail, head, dice.below(2_000_000) + if head == far { LONG } else { 0 });
     }
-    let ask = |target| Ask { start: 35_000_000, source: 0, target };
-    network.asked(40_000_000, ask(far), ask(apart))
+    network.asked_from_0(far, apart)
 }
 
 /// What a long road takes besides.
 const LONG: usize = 15_000_000;
 
 /// A chain through all junctions, numbered in no order; the side roads lead back, or on at a greater cost. The last
-/// road of the chain is long, and the start without a route does not reach over it.
-fn path(mut dice: Dice) -> [Question; 2] {
+/// road of the chain is long, and the low start does not reach over it. No road leads back from the end, so that a
+/// search from there is over at once, while one back to the beginning is wide.
+fn path(mut dice: Dice) -> [Question; 4] {
     let order = dice.order(MOST_JUNCTIONS);
     let mut network = Network::new((0..MOST_JUNCTIONS).map(|_| dice.below(2_000_000) as i32).collect());
     for i in 1..MOST_JUNCTIONS {
@@ -231,13 +273,16 @@ fn path(mut dice: Dice) -> [Question; 2] {
             network.add(order[i - 4], order[i], 200_000);
         }
     }
-    let ask = |start| Ask { start, source: order[0], target: order[MOST_JUNCTIONS - 1] };
-    network.asked(80_000_000, ask(60_000_000), ask(24_000_000))
+    let (first, last) = (order[0], order[MOST_JUNCTIONS - 1]);
+    let ask = |start| Ask { start, source: first, target: last };
+    let back = Ask { start: 60_000_000, source: last, target: first };
+    network.asked(80_000_000, ask(60_000_000), ask(24_000_000), back)
 }
 
 /// Four hubs with some two thousand roads each; every other junction has two roads from hubs and two to hubs, but no
-/// road leads to the last. All roads to the last but one are long, so that it is reached late.
-fn fan(mut dice: Dice) -> [Question; 2] {
+/// road leads to the last. All roads to the last but one are long, so that it is reached late; the low start would just
+/// do for its climb and a long road.
+fn fan(mut dice: Dice) -> [Question; 4] {
     const HUBS: usize = 4;
     let mut network = Network::new(dice.potentials(MOST_JUNCTIONS));
     let (far, apart) = (MOST_JUNCTIONS - 2, MOST_JUNCTIONS - 1);
@@ -247,16 +292,15 @@ fn fan(mut dice: Dice) -> [Question; 2] {
         network.add(dice.below(HUBS), rim, slack);
         network.add(rim, dice.below(HUBS), dice.below(2_000_000));
     }
-    let ask = |target| Ask { start: 35_000_000, source: 0, target };
-    network.asked(40_000_000, ask(far), ask(apart))
+    network.asked_from_0(far, apart)
 }
 
 /// Hill network H of document 01, the same in every drawing.
-fn network_h(_: Dice) -> [Question; 2] {
+fn network_h(_: Dice) -> [Question; 4] {
     let mut network = Network::new(vec![-200, -500, 0, 0]);
     for (tail, head, slack) in [(0, 1, 0), (1, 2, 0), (0, 2, 300), (2, 3, 900)] {
         network.add(tail, head, slack);
     }
     let ask = |start| Ask { start, source: 0, target: 3 };
-    network.asked(1_000, ask(900), ask(699))
+    network.asked(1_000, ask(900), ask(699), Ask { start: 1_000, source: 3, target: 0 })
 }

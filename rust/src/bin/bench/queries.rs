@@ -1,6 +1,7 @@
 //! Whole queries: bytes in, answer out, the network check included.
 
-use crate::networks::{Case, Question};
+use crate::document::Refusal;
+use crate::networks::{Case, Question, NUMBERS};
 use crate::times::{Ratios, Times};
 use crate::{plain, tight, tuned};
 use sedge::{Files, Planned};
@@ -15,9 +16,12 @@ pub const ROUNDS: usize = 6 * IMPLEMENTATIONS.len();
 /// How many queries of a network below full size are timed together.
 const BATCH: u32 = 64;
 
-/// What ours may take of each of the others on a full-size network. Beside tuned there is no mark.
+/// What ours may take of each of the others on a full-size network with a route. Beside tuned there is no mark.
 const PLAIN_MARK: f64 = 0.55;
 const TIGHT_MARK: f64 = 1.0;
+
+/// How often ours goes over the network to tell why there is no route: 10, 16 and 17.
+const PASSES: [usize; 3] = [2, 3, 3];
 
 /// A best route, as the wrapper gives it.
 type BestRoute = fn(Files, i64, i64, u64, u64, &mut [u16]) -> Planned;
@@ -52,28 +56,38 @@ pub fn compare(cases: &[Case]) -> Result<(), String> {
     println!("Whole queries in microseconds: the median, and the mean of the leasts of each drawing.");
     println!("{ROUNDS} rounds over the drawings of each network, the implementations in turn, each round from another");
     println!("one on. Below full size, {BATCH} queries are timed together. No buffer is cleared between queries.");
+    println!("ours / route is by ours with a route on the same network.");
     let sizes: Vec<String> = cases.iter().filter(|case| case.has_route()).map(Case::size).collect();
     println!("Junctions and roads: {}.", sizes.join(", "));
     println!();
     println!(
-        "{:12} {:>15} {:>15} {:>15} {:>15} {:>13} {:>13} {:>13}",
-        "network", "ours", "plain", "tight", "tuned", "ours / plain", "ours / tight", "ours / tuned"
+        "{:12} {:>15} {:>15} {:>15} {:>15} {:>13} {:>13} {:>13} {:>13}",
+        "network", "ours", "plain", "tight", "tuned", "ours / plain", "ours / tight", "ours / tuned", "ours / route"
     );
-    let (mut of_plain, mut of_tight, mut of_tuned) = (Worst::default(), Worst::default(), Worst::default());
-    for case in cases {
-        let [ours, plain, tight, tuned] = time(case);
-        let (by_plain, by_tight, by_tuned) = (ours.by(&plain), ours.by(&tight), ours.by(&tuned));
-        println!("{:12} {ours} {plain} {tight} {tuned} {by_plain} {by_tight} {by_tuned}", case.name);
-        if case.is_full_size() {
-            of_plain.take(&by_plain, &case.name);
-            of_tight.take(&by_tight, &case.name);
-            of_tuned.take(&by_tuned, &case.name);
+    let mut worst = NUMBERS.map(|_| <[Worst; 4]>::default());
+    for questions in cases.chunks(NUMBERS.len()) {
+        let mut route = None;
+        for (case, worst) in questions.iter().zip(&mut worst) {
+            let [ours, plain, tight, tuned] = time(case);
+            let ratios = [plain, tight, tuned, *route.get_or_insert(ours)].map(|other| ours.by(&other));
+            let [by_plain, by_tight, by_tuned, by_route] = &ratios;
+            println!("{:12} {ours} {plain} {tight} {tuned} {by_plain} {by_tight} {by_tuned} {by_route}", case.name);
+            if case.is_full_size() {
+                worst.iter_mut().zip(&ratios).for_each(|(worst, ratios)| worst.take(ratios, &case.name));
+            }
         }
     }
+    let [[of_plain, of_tight, of_tuned, _], without_route @ ..] = worst;
     println!();
-    println!("ours / plain at most {PLAIN_MARK:.2} on full-size: {}; {of_plain}", of_plain.judged(PLAIN_MARK));
-    println!("ours / tight at most {TIGHT_MARK:.2} on full-size: {}; {of_tight}", of_tight.judged(TIGHT_MARK));
+    println!("Full-size with a route:");
+    println!("ours / plain at most {PLAIN_MARK:.2}: {}; {of_plain}", of_plain.judged(PLAIN_MARK));
+    println!("ours / tight at most {TIGHT_MARK:.2}: {}; {of_tight}", of_tight.judged(TIGHT_MARK));
     println!("ours / tuned without a mark; {of_tuned}");
+    println!("Full-size without a route, where ours goes over the network again to tell why, without a mark:");
+    for ((number, passes), [_, of_tight, _, of_route]) in NUMBERS[1..].iter().zip(PASSES).zip(without_route) {
+        println!("{number} by {passes} passes, ours / tight by 1; {of_tight}");
+        println!("{number} by {passes} passes, ours / route; {of_route}");
+    }
     Ok(())
 }
 
@@ -94,15 +108,15 @@ pub fn ask(question: &Question, best_route: BestRoute, list: &mut [u16]) -> Plan
     black_box(best_route(question.files(), question.battery, question.start, question.source, question.target, list))
 }
 
-/// Whether all implementations give the same number, place and arrival, the number being the one expected, and each
-/// one's route is driven with the totals that it gave.
+/// Whether all implementations give the same arrival and the number expected, which is one for all reasons why there is
+/// no route but in ours, and each one's route is driven with the totals that it gave.
 fn agree(question: &Question) -> Result<(), String> {
     let mut first = None;
     for (name, best_route) in IMPLEMENTATIONS {
         let mut list = question.list();
         let answer = ask(question, best_route, &mut list);
-        let told = (answer.number, answer.place, answer.arrival);
-        if answer.number != question.number || *first.get_or_insert(told) != told {
+        let number = if name == "ours" { question.number } else { question.number.min(Refusal::NO_ROUTE.number) };
+        if answer.number != number || *first.get_or_insert(answer.arrival) != answer.arrival {
             return Err(format!("{name} differs: {answer:?}"));
         }
         let route = &list[..answer.roads as usize];

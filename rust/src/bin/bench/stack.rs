@@ -3,29 +3,32 @@
 
 use crate::networks::Question;
 
-/// Prints the bytes of stack for each of the five entries.
+/// Prints the bytes of stack for each of the five entries, and for a best route where there is none.
 #[cfg(target_arch = "x86_64")]
-pub fn print(question: &Question) {
-    let mut list = question.list();
-    let (files, battery, start) = (question.files(), question.battery, question.start);
-    let (source, target) = (question.source, question.target);
-    let roads = sedge::best_route(files, battery, start, source, target, &mut list).roads as usize;
+pub fn print(question: &Question, without_route: &Question) {
+    let plan = |question: &Question, list: &mut [u16]| {
+        let Question { battery, start, source, target, .. } = *question;
+        sedge::best_route(question.files(), battery, start, source, target, list)
+    };
+    let Question { battery, start, source, depot, .. } = *question;
+    let (files, mut list, mut charges) = (question.files(), question.list(), question.charges());
+    let roads = plan(question, &mut list).roads as usize;
     let route = list[..roads].to_vec();
-    let mut charges = question.charges();
     println!("Stack below the caller's frame in bytes, by a painted stack; an empty call for comparison.");
     println!();
     let line = |entry: &str, bytes: usize| println!("{entry:18} {bytes:>7}");
     line("an empty call", painted::used(|| ()));
     line("sedge_check", painted::used(|| sedge::check(files)));
-    line("sedge_best_route", painted::used(|| sedge::best_route(files, battery, start, source, target, &mut list)));
+    line("sedge_best_route", painted::used(|| plan(question, &mut list)));
+    line("without a route", painted::used(|| plan(without_route, &mut list)));
     line("sedge_drive", painted::used(|| sedge::drive(files, battery, start, source, &route)));
     line("sedge_profile", painted::used(|| sedge::profile(files, battery, source, &route)));
-    line("sedge_set_off", painted::used(|| sedge::set_off(files, battery, question.depot, &mut charges)));
+    line("sedge_set_off", painted::used(|| sedge::set_off(files, battery, depot, &mut charges)));
 }
 
 /// Says that the stack is not measured here.
 #[cfg(not(target_arch = "x86_64"))]
-pub fn print(_: &Question) {
+pub fn print(_: &Question, _: &Question) {
     println!("Stack: measured on x86_64 only.");
 }
 

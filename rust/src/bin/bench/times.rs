@@ -4,6 +4,7 @@ use std::fmt;
 use std::time::Duration;
 
 /// The median of all times, and the mean of the least ones of each drawing, in microseconds.
+#[derive(Clone, Copy)]
 pub struct Times {
     pub median: f64,
     pub least: f64,

@@ -12,9 +12,6 @@ returns c = ap (λ (s : Sense). left s (c .before .before .before .args .road)) 
 returns-2 : tie.Need-returns-2
 returns-2 c = ap (λ (s : Sense). left s (c .before .before .before .args .road)) (sym (c .before .enum-told2 .given .1))
 
-returns-3 : tie.Need-returns-3
-returns-3 c = ap (λ (s : Sense). left s (c .before .before .before .args .road)) (sym (c .before .enum-told3 .given .1))
-
 pub left-spec : {M : Type 1} → statement M
 left-spec =
     tie.close
@@ -23,8 +20,5 @@ left-spec =
     (λ c. search needs)
     (λ c. search needs)
     (λ c. search needs)
-    (λ c. search needs)
-    (λ c. search needs)
     returns
-    returns-2
-    returns-3)
+    returns-2)

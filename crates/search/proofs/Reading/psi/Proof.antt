@@ -21,11 +21,6 @@ returns-2 c =
     ∙ ap psiBackward (toZ-ofZ (start .fits .potential))
     ∙ ap (λ (s : Sense). psiOf s (start .args .potential)) (sym (c .before .enum-told2 .given .1))
 
-returns-3 : tie.Need-returns-3
-returns-3 c =
-    let start = c .before .before in
-    ap (λ (s : Sense). psiOf s (start .args .potential)) (sym (c .enum-told3 .given .1))
-
 pub psi-spec : {M : Type 1} → statement M
 psi-spec =
     tie.close
@@ -34,7 +29,5 @@ psi-spec =
     (λ c κs. search needs)
     (λ c. search needs)
     (λ c κs. search needs)
-    (λ c. search needs)
     returns
-    returns-2
-    returns-3)
+    returns-2)

@@ -18,11 +18,6 @@ returns-2 c =
     c .step-backward .ensures
     ∙ ap (λ (s : Sense). stepOf s (a .self .battery) (a .road) (a .label)) (sym (c .before .enum-told2 .given .1))
 
-returns-3 : tie.Need-returns-3
-returns-3 c =
-    let a = c .before .before .args in
-    ap (λ (s : Sense). stepOf s (a .self .battery) (a .road) (a .label)) (sym (c .enum-told3 .given .1))
-
 pub step-spec : {M : Type 1} → statement M
 step-spec =
     tie.close
@@ -31,7 +26,5 @@ step-spec =
     (λ c κs. search needs)
     (λ c. search needs)
     (λ c κs. search needs)
-    (λ c. search needs)
     returns
-    returns-2
-    returns-3)
+    returns-2)
