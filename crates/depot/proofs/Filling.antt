@@ -22,9 +22,8 @@ use Rattle.network.specs.declared.Checked.the-variants.{Passed}
 use Rattle.network.specs.declared.Refusal.the-variants.{JunctionFile, RoadFile, Battery, NoJunction, ShortList}
 use Rattle.search.proofs.Backward.{set-off}
 use Rattle.search.proofs.Laws.{best-le}
-use Rattle.search.specs.Found.{Labels}
 use Rattle.search.specs.Reading.{backward, chargeOf, net}
-use Rattle.search.specs.Searches.{LabelAsks}
+use Rattle.search.specs.Searches.{LabelAsks, Labels}
 use Rattle.planner.proofs.Cleared.{battery-whole}
 use Rattle.planner.specs.Order.{isBattery}
 use Rattle.depot.specs.Filling.{beforeSetOff, FillAsks, WriteAsks, Written}

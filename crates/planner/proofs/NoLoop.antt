@@ -8,10 +8,10 @@ use Rattle.battery.specs.declared.Drove.{Drove}
 use Rattle.battery.specs.declared.Drove.the-variants.{On, TooLow}
 use Rattle.battery.specs.declared.Van.{Van}
 use Rattle.network.specs.Walks.{roadsOf}
+use Rattle.walks.proofs.Loops.{loop-no-more}
 use Rattle.search.proofs.Forward.{label, label-after}
 use Rattle.search.proofs.Laws.{laws-of}
 use Rattle.search.specs.Reading.{forward, psi, net}
-use Rattle.walks.proofs.Loops.{loop-no-more}
 use Rattle.planner.specs.Claims.{LoopNoMore}
 
 -- a drive that arrives with no less

@@ -18,12 +18,12 @@ use Rattle.routes.proofs.Exactly.{driven-exactly}
 use Rattle.routes.specs.Steps.{DriveAsks}
 use Rattle.walks.specs.Label.{after}
 use Rattle.search.proofs.Forward.{label, label-after}
-use Rattle.search.specs.Found.{BestOf, Finds, nowhere, route}
 use Rattle.search.specs.Reading.{forward, net}
-use Rattle.search.specs.Searches.{FindAsks}
-use Rattle.search.specs.declared.Found.{Found}
-use Rattle.search.specs.declared.Found.the-variants.{Nowhere, Roads}
 use Rattle.search.specs.declared.Trip.{Trip}
+use Rattle.trips.specs.Found.{BestOf, Finds, nowhere, route}
+use Rattle.trips.specs.Asks.{FindAsks}
+use Rattle.trips.specs.declared.Found.{Found}
+use Rattle.trips.specs.declared.Found.the-variants.{Nowhere, Roads}
 use Rattle.planner.specs.Given.{planNumbers}
 use Rattle.planner.specs.Order.{planVan, planFault}
 use Rattle.planner.specs.Planning.{FoundAsks, FoundKeeps}

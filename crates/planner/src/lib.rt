@@ -14,8 +14,8 @@ use network::Checked;
 use network::Refusal;
 use routes::Driven;
 use routes::Profiled;
-use search::Found;
 use search::Trip;
+use trips::Found;
 
 // What a drive is asked for: battery size and start charge in mWh, and where it sets out.
 pub struct DriveQuestion {
@@ -219,7 +219,7 @@ fn plan(nodes: &[u8], roads: &[u8], question: PlanQuestion, van: Van, list: &mut
         label: van.charge + 1,
         target: question.target as usize,
     };
-    let found = search::find(nodes, roads, van.battery, trip, list);
+    let found = trips::find(nodes, roads, van.battery, trip, list);
     match found {
         Found::Nowhere(r) => Planned::Refused(r),
         Found::Roads(count) => drive_found(roads, &list[..count], trip.source, van),

@@ -4,8 +4,8 @@ pub mod Backward
 mod Capped
 mod StepForward
 mod StepBackward
-mod Counting
-mod Puts
+pub mod Counting
+pub mod Puts
 mod Beginning
 mod Settling
 mod Relaxing
@@ -15,15 +15,7 @@ mod Offering
 mod Packing
 mod Roads
 mod Linking
-mod Trailing
-mod Writing
 mod Spreading
 mod Exploring
 mod Starting
-mod Clearing
-mod Seeking
-mod Listing
-mod Marking
-mod Reaching
-mod Reasoning
-mod Finding
+pub mod Seeking

@@ -1,18 +1,17 @@
--- One search in lists that are lent: new ones, or those of a search after which nothing waits. Assumes nothing.
-use mathlib.Core.Path.{_≡_, refl, _∙_}
+-- One search in lists that are lent. Assumes nothing.
+use mathlib.Core.Path.{_≡_, _∙_}
 use mathlib.Core.List.{List}
-use mathlib.Core.Logic.{inl, inr}
+use mathlib.Core.Logic.{inr}
 use Prim.Native.Nat.{ℕ, _+_}
 use native.Mathlib.Omega.{arith}
 use lib.ListN.{length, replicate, length-replicate, List·getD-eq-default}
 use Rattle.frontier.proofs.Empty.{zeros}
-use Rattle.frontier.specs.Frontier.{keysFrom, entry, AllZero}
+use Rattle.frontier.specs.Frontier.{keysFrom, AllZero}
 use Rattle.network.specs.Files.{roadCount, mostJunctions, mostRoads}
-use Rattle.walks.specs.Label.{Net, Best}
+use Rattle.walks.specs.Label.{Net}
 use Rattle.search.specs.Chains.{Unchained, Chained, ChainAsks}
-use Rattle.search.specs.Found.{Labels}
 use Rattle.search.specs.Reading.{net}
-use Rattle.search.specs.Searches.{SetsOut, ExploreAsks, Explored, Lent, SeekAsks, ClearAsks, AgainAsks}
+use Rattle.search.specs.Searches.{SetsOut, ExploreAsks, Explored, Lent, SeekAsks, Labels}
 use Rattle.search.specs.Steps.{Readable}
 use Rattle.search.specs.declared.Reading.{Reading}
 use Rattle.search.specs.declared.Trip.{Trip}
@@ -88,23 +87,3 @@ lent-on l c la w q =
             long-queue = q ∙ l .sized .long-queue;
           };
     }
-
-module _ (rd : Reading) (ns rs : List ℕ) (trip : Trip) (chains labels ways queue : List ℕ)
-    (a : AgainAsks rd ns rs trip chains labels ways queue) where
-  pub clear-asks : ClearAsks chains labels
-  clear-asks = record { long-chains = a .lent .long; long-labels = a .lent .sized .long-labels }
-
-  pub seek-asks : (chains' labels' : List ℕ) → length chains' ≡ length chains → length labels' ≡ length labels
-      → Unchained chains' → AllZero labels' → SeekAsks rd ns rs trip chains' labels' ways queue
-  seek-asks chains' labels' c l u z =
-      record {
-        sets-out = a .sets-out;
-        lent = lent-on (a .lent) c l refl refl;
-        no-road = u;
-        no-label = z;
-        no-key = a .no-key;
-      }
-
-pub best-target : (N : Net) (n : ℕ) (trip : Trip) (labels ways queue : List ℕ) → Explored N n trip labels ways queue
-    → Best N (trip .source) (trip .label) (trip .target) (entry labels (trip .target))
-best-target N n trip labels ways queue e = e .best (trip .target) (inl refl)

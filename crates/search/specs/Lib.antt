@@ -1,8 +1,6 @@
 pub mod Reading
-pub mod Found
 pub mod State
 pub mod Trails
 pub mod Chains
 pub mod Steps
 pub mod Searches
-pub mod Marks

@@ -8,7 +8,7 @@ use Rattle.frontier.specs.Frontier.{entry, AllZero}
 use Rattle.network.specs.Files.{junctions, roadCount, mostJunctions, mostRoads}
 use Rattle.walks.specs.Label.{Net, Best}
 use Rattle.search.specs.Chains.{Unchained, Chained}
-use Rattle.search.specs.Reading.{forward, net}
+use Rattle.search.specs.Reading.{net}
 use Rattle.search.specs.Steps.{Readable, Sized}
 use Rattle.search.specs.Trails.{Route}
 use Rattle.search.specs.declared.Reading.{Reading}
@@ -51,32 +51,14 @@ pub record SeekAsks (rd : Reading) (ns rs : List ℕ) (trip : Trip) (chains labe
   pub no-label : AllZero labels
   pub no-key : AllZero queue
 
-pub record ClearAsks (chains labels : List ℕ) : Type 0 where
-  pub long-chains : length chains ≡ mostJunctions + mostRoads
-  pub long-labels : length labels ≡ mostJunctions
-
--- nothing waits; roads, labels and ways of another search may still be there
-pub record AgainAsks (rd : Reading) (ns rs : List ℕ) (trip : Trip) (chains labels ways queue : List ℕ) : Type 0 where
-  pub sets-out : SetsOut rd ns rs (trip .source) (trip .label)
-  pub target-in : trip .target < junctions ns
-  pub lent : Lent chains labels ways queue
-  pub no-key : AllZero queue
-
--- ---- the route, the reason, the label of every junction
-
-pub record FindAsks (M : ℕ) (ns rs : List ℕ) (trip : Trip) (list : List ℕ) : Type 0 where
-  pub sets-out : SetsOut (forward M) ns rs (trip .source) (trip .label)
-  pub target-in : trip .target < junctions ns
-  pub room : junctions ns ≤ length list + 1
-
-pub record ReasonAsks (M : ℕ) (ns rs : List ℕ) (trip : Trip) (chains labels ways queue : List ℕ) : Type 0 where
-  pub readable : Readable M ns rs
-  pub source-in : trip .source < junctions ns
-  pub target-in : trip .target < junctions ns
-  pub lent : Lent chains labels ways queue
-  pub no-key : AllZero queue
+-- ---- the label of every junction
 
 pub record LabelAsks (rd : Reading) (ns rs : List ℕ) (source label : ℕ) (labels : List ℕ) : Type 0 where
   pub sets-out : SetsOut rd ns rs source label
   pub long : length labels ≡ mostJunctions
   pub no-label : AllZero labels
+
+-- from s with the label l: every junction has its best label
+pub record Labels (N : Net) (s l : ℕ) (labels : List ℕ) : Type 0 where
+  pub long : length labels ≡ mostJunctions
+  pub best : (v : ℕ) → Best N s l v (entry labels v)

@@ -1,10 +1,9 @@
 -- The route that the ways give, read backward from its end. No promise cites this file.
 use mathlib.Core.Path.{_≡_}
-use mathlib.Core.List.{List, [], _∷_, _++_}
+use mathlib.Core.List.{List, [], _∷_}
 use mathlib.Core.Logic.{_≢_}
-use Prim.Native.Nat.{ℕ, _≤_, _<_}
-use lib.ListN.{length, drop}
-use Rattle.frontier.specs.Frontier.{entry}
+use Prim.Native.Nat.{ℕ, _<_}
+use lib.ListN.{length}
 use Rattle.walks.specs.Walk.{Roads, Walk, Once}
 use Rattle.walks.specs.Label.{Net, after}
 
@@ -22,27 +21,3 @@ pub record Route (N : Net) (W : ℕ → ℕ) (n s l t x : ℕ) : Type 0 where
   pub walk : Walk (N .roads) s by t
   pub once : Once (N .roads) s by
   pub brings : after N by l ≡ x
-
--- the trail of a list of ways, from t back to s
-abbrev pub TrailOf : Roads → List ℕ → ℕ → ℕ → List ℕ → Type 0
-TrailOf R ways s t ks = Trail R (λ v. entry ways v) (length ways) s t [] ks
-
--- there is one, and it has fewer roads than there are ways
-pub record Trailed (R : Roads) (ways : List ℕ) (s t : ℕ) : Type 0 where
-  pub by : List ℕ
-  pub trail : TrailOf R ways s t by
-  pub few : length by < length ways
-
--- count is its length, and the list has room for it
-pub record WriteAsks (R : Roads) (ways : List ℕ) (s t count : ℕ) (list : List ℕ) : Type 0 where
-  pub trailed : Trailed R ways s t
-  pub count-is : count ≡ length (trailed .by)
-  pub fits : count ≤ length list
-
--- count is the length of the trail
-abbrev pub Counted : Roads → List ℕ → ℕ → ℕ → ℕ → Type 0
-Counted R ways s t count = (ks : List ℕ) → TrailOf R ways s t ks → count ≡ length ks
-
--- list' is the list with the trail at its front
-abbrev pub Written : Roads → List ℕ → ℕ → ℕ → List ℕ → List ℕ → Type 0
-Written R ways s t list list' = (ks : List ℕ) → TrailOf R ways s t ks → list' ≡ ks ++ drop (length ks) list

@@ -7,8 +7,8 @@ use borrow.Author.Needs.{needs}
 use lib.ListN.{length, take}
 use lib.Seq.{length-take-le}
 use Rattle.battery.specs.declared.Van.{Van}
-use Rattle.search.specs.Searches.{FindAsks}
-use Rattle.search.specs.declared.Found.{Found}
+use Rattle.trips.specs.Asks.{FindAsks}
+use Rattle.trips.specs.declared.Found.{Found}
 use Rattle.planner.specs.Order.{planVan}
 use Rattle.planner.specs.Planning.{FoundAsks, FoundKeeps}
 use Rattle.planner.proofs.Cleared.{start-whole, plan-cleared}

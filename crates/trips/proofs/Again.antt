@@ -1,0 +1,34 @@
+-- Another search in the lists of one after which nothing waits. Assumes nothing.
+use mathlib.Core.Path.{_≡_, refl}
+use mathlib.Core.List.{List}
+use mathlib.Core.Logic.{inl}
+use Prim.Native.Nat.{ℕ}
+use lib.ListN.{length}
+use Rattle.frontier.specs.Frontier.{entry, AllZero}
+use Rattle.walks.specs.Label.{Net, Best}
+use Rattle.search.specs.Chains.{Unchained}
+use Rattle.search.specs.Searches.{Explored, SeekAsks}
+use Rattle.search.specs.declared.Reading.{Reading}
+use Rattle.search.specs.declared.Trip.{Trip}
+use Rattle.search.proofs.Seeking.{lent-on}
+use Rattle.trips.specs.Asks.{ClearAsks, AgainAsks}
+
+module _ (rd : Reading) (ns rs : List ℕ) (trip : Trip) (chains labels ways queue : List ℕ)
+    (a : AgainAsks rd ns rs trip chains labels ways queue) where
+  pub clear-asks : ClearAsks chains labels
+  clear-asks = record { long-chains = a .lent .long; long-labels = a .lent .sized .long-labels }
+
+  pub seek-asks : (chains' labels' : List ℕ) → length chains' ≡ length chains → length labels' ≡ length labels
+      → Unchained chains' → AllZero labels' → SeekAsks rd ns rs trip chains' labels' ways queue
+  seek-asks chains' labels' c l u z =
+      record {
+        sets-out = a .sets-out;
+        lent = lent-on (a .lent) c l refl refl;
+        no-road = u;
+        no-label = z;
+        no-key = a .no-key;
+      }
+
+pub best-target : (N : Net) (n : ℕ) (trip : Trip) (labels ways queue : List ℕ) → Explored N n trip labels ways queue
+    → Best N (trip .source) (trip .label) (trip .target) (entry labels (trip .target))
+best-target N n trip labels ways queue e = e .best (trip .target) (inl refl)

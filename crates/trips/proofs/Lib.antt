@@ -1,0 +1,9 @@
+mod Trailing
+mod Writing
+mod Clearing
+mod Again
+mod Listing
+mod Marking
+mod Reaching
+mod Reasoning
+mod Finding

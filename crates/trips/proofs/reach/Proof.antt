@@ -1,0 +1,108 @@
+-- `trips::reach` meets its contract. Invariant: the roads of the first listed junctions are followed. Measure: the junctions
+-- left. In a turn, `tested` is where it begins, `start` where the function begins. Assumes nothing.
+use mathlib.Core.Path.{sym, _∙_}
+use Prim.Native.Nat.{_-_}
+use native.Mathlib.Omega.{arith}
+use Rattle.network.specs.Files.{mostJunctions}
+use Rattle.search.specs.Reading.{net}
+use Rattle.trips.proofs.Marking.{u-in}
+use Rattle.trips.proofs.Reaching.{ReachLoop, reach-start, last-le, mark-asks, reach-next, reach-done}
+use Rattle.trips.proofs.reach.Statement.{statement}
+use Rattle.trips.proofs.reach.Tie as tie
+
+abbrev Inv-loop : tie.InvT-loop
+Inv-loop roads reading chains source labels₀ ways₀ last₀ first₀ labels ways last first =
+    ReachLoop (net reading roads .roads) source labels ways first last
+
+abbrev μ-loop : tie.MeasureT-loop
+μ-loop roads reading chains source labels₀ ways₀ last₀ first₀ labels ways last first = mostJunctions - first
+
+slice-write-labels : tie.Need-slice-write-labels Inv-loop μ-loop
+slice-write-labels c =
+    let start = c .before .before .before .before in
+    omega (arith, start .pre .source-in, start .pre .tracked .long-labels)
+
+mul-u : tie.Need-mul-u Inv-loop μ-loop
+mul-u c =
+    let start = c .before .before .before .before .before .before in
+    omega (arith, last-le _ _ _ _ _ (start .pre) _ _ _ _ (c .before .loop .inv) (c .loop-test .taken), c .loop-test .taken)
+
+slice-read-u : tie.Need-slice-read-u Inv-loop μ-loop
+slice-read-u c =
+    let tested = c .before in
+    let start = tested .before .before .before .before .before .before in
+    omega (
+      arith,
+      last-le _ _ _ _ _ (start .pre) _ _ _ _ (tested .before .loop .inv) (tested .loop-test .taken),
+      tested .loop-test .taken,
+      tested .before .loop .inv .long-ways,
+    )
+
+cast-u : tie.Need-cast-u Inv-loop μ-loop
+cast-u c =
+    let tested = c .before in
+    let start = tested .before .before .before .before .before .before in
+    omega (arith, u-in _ _ _ _ _ _ (mark-asks _ _ _ _ _ (start .pre) _ _ _ _ (tested .before .loop .inv) (tested .loop-test .taken)))
+
+mark-requires : tie.Need-mark-requires Inv-loop μ-loop
+mark-requires c κs =
+    let tested = c .before .before .before in
+    let start = tested .before .before .before .before .before .before in
+    mark-asks _ _ _ _ _ (start .pre) _ _ _ _ (tested .before .loop .inv) (tested .loop-test .taken)
+
+add-first : tie.Need-add-first Inv-loop μ-loop
+add-first c =
+    let tested = c .before .before .before .before .before .before .before .before in
+    let start = tested .before .before .before .before .before .before in
+    omega (arith, last-le _ _ _ _ _ (start .pre) _ _ _ _ (tested .before .loop .inv) (tested .loop-test .taken), tested .loop-test .taken)
+
+loop-less : tie.Need-loop-less Inv-loop μ-loop
+loop-less c =
+    let tested = c .before .before .before .before .before .before .before .before in
+    let start = tested .before .before .before .before .before .before in
+    omega (arith, last-le _ _ _ _ _ (start .pre) _ _ _ _ (tested .before .loop .inv) (tested .loop-test .taken), tested .loop-test .taken)
+
+loop-again : tie.Need-loop-again Inv-loop μ-loop
+loop-again c =
+    let tested = c .before .before .before .before .before .before .before .before in
+    let start = tested .before .before .before .before .before .before in
+    let x = c .before .before .before .before .mark in
+    reach-next _ _ _ _ _ (start .pre) _ _ _ _ (tested .before .loop .inv) (tested .loop-test .taken) _ _ _ (x .kept .1 .1 .1 .1 .0)
+    (x .kept .1 .1 .1 .1 .1 .0) (x .ensures)
+
+same-length : tie.Need-same-length Inv-loop μ-loop
+same-length c =
+    let start = c .before .before .before .before .before .before in
+    c .before .loop .inv .long-labels ∙ sym (start .pre .tracked .long-labels)
+
+same-length-2 : tie.Need-same-length-2 Inv-loop μ-loop
+same-length-2 c =
+    let start = c .before .before .before .before .before .before in
+    c .before .loop .inv .long-ways ∙ sym (start .pre .tracked .long-ways)
+
+returns : tie.Need-returns Inv-loop μ-loop
+returns c =
+    let start = c .before .before .before .before .before .before in
+    reach-done _ _ _ _ _ (start .pre) _ _ _ _ (c .before .loop .inv) (c .loop-test .left)
+
+pub reach-spec : {M : Type 1} → statement M
+reach-spec =
+    tie.close
+    (tie.spec
+    Inv-loop
+    μ-loop
+    (λ c. omega (arith, c .before .before .before .before .pre .source-in))
+    slice-write-labels
+    (λ c. omega (arith, c .before .before .before .before .pre .source-in))
+    (λ c. omega (arith, c .before .before .before .before .pre .tracked .long-ways))
+    (λ c. reach-start _ _ _ _ _ (c .before .before .before .before .pre))
+    mul-u
+    slice-read-u
+    cast-u
+    mark-requires
+    add-first
+    loop-less
+    loop-again
+    same-length
+    same-length-2
+    returns)

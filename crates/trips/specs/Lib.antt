@@ -1,0 +1,4 @@
+pub mod Ways
+pub mod Asks
+pub mod Marks
+pub mod Found
