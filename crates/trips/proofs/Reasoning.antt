@@ -6,6 +6,7 @@ use mathlib.Core.List.{List, reverse}
 use Prim.Native.Nat.{ℕ, _+_, _-_, _<_}
 use native.Mathlib.Omega.{arith}
 use lib.ListN.{length}
+use Rattle.network.specs.Files.{junctions}
 use Rattle.network.specs.Reasons.{Reason}
 use Rattle.network.specs.Reasons as reasons
 use Rattle.network.specs.SetOff.{SetOff}
@@ -34,17 +35,18 @@ module _ (M : ℕ) (ns rs : List ℕ) (trip : Trip) (chains labels ways queue : 
         no-key = a .no-key;
       }
 
-  pub lead-asks : (chains' labels' ways' : List ℕ) → length chains' ≡ length chains → length labels' ≡ length labels
-      → length ways' ≡ length ways → LeadAsks (net (backward M) rs .roads) (tripBack M trip) chains' labels' ways'
-  lead-asks chains' labels' ways' c l w =
+  pub lead-asks : (t : Trip) → t .source < junctions ns → t .target < junctions ns → (chains' labels' ways' : List ℕ)
+      → length chains' ≡ length chains → length labels' ≡ length labels → length ways' ≡ length ways
+      → LeadAsks (net (backward M) rs .roads) t chains' labels' ways'
+  lead-asks t s-in t-in chains' labels' ways' c l w =
       let r = a .readable in
       let n = count-is (backward M) rs in
       record {
         few-roads = omega (arith, n, r .few-roads);
         tails-in = λ k h. omega (arith, tails-in (backward M) ns rs r k (omega (arith, n)), r .few);
         heads-in = λ k h. omega (arith, heads-in (backward M) ns rs r k (omega (arith, n)), r .few);
-        source-in = omega (arith, a .target-in, r .few);
-        target-in = omega (arith, a .source-in, r .few);
+        source-in = omega (arith, r .few);
+        target-in = omega (arith, r .few);
         cleared = record { long-chains = c ∙ a .lent .long; long-labels = l ∙ a .lent .sized .long-labels };
         long-ways = w ∙ a .lent .sized .long-ways;
       }

@@ -25,7 +25,7 @@ slice-write-labels c =
 mul-u : tie.Need-mul-u Inv-loop μ-loop
 mul-u c =
     let start = c .before .before .before .before .before .before in
-    omega (arith, last-le _ _ _ _ _ (start .pre) _ _ _ _ (c .before .loop .inv) (c .loop-test .taken), c .loop-test .taken)
+    omega (arith, last-le _ _ _ _ _ (start .pre) _ _ _ _ (c .before .loop .inv) (omega (arith, c .loop-test .taken)), c .loop-test .taken)
 
 slice-read-u : tie.Need-slice-read-u Inv-loop μ-loop
 slice-read-u c =
@@ -33,7 +33,7 @@ slice-read-u c =
     let start = tested .before .before .before .before .before .before in
     omega (
       arith,
-      last-le _ _ _ _ _ (start .pre) _ _ _ _ (tested .before .loop .inv) (tested .loop-test .taken),
+      last-le _ _ _ _ _ (start .pre) _ _ _ _ (tested .before .loop .inv) (omega (arith, tested .loop-test .taken)),
       tested .loop-test .taken,
       tested .before .loop .inv .long-ways,
     )
@@ -42,32 +42,32 @@ cast-u : tie.Need-cast-u Inv-loop μ-loop
 cast-u c =
     let tested = c .before in
     let start = tested .before .before .before .before .before .before in
-    omega (arith, u-in _ _ _ _ _ _ (mark-asks _ _ _ _ _ (start .pre) _ _ _ _ (tested .before .loop .inv) (tested .loop-test .taken)))
+    omega (arith, u-in _ _ _ _ _ _ (mark-asks _ _ _ _ _ (start .pre) _ _ _ _ (tested .before .loop .inv) (omega (arith, tested .loop-test .taken))))
 
 mark-requires : tie.Need-mark-requires Inv-loop μ-loop
 mark-requires c κs =
     let tested = c .before .before .before in
     let start = tested .before .before .before .before .before .before in
-    mark-asks _ _ _ _ _ (start .pre) _ _ _ _ (tested .before .loop .inv) (tested .loop-test .taken)
+    mark-asks _ _ _ _ _ (start .pre) _ _ _ _ (tested .before .loop .inv) (omega (arith, tested .loop-test .taken))
 
 add-first : tie.Need-add-first Inv-loop μ-loop
 add-first c =
     let tested = c .before .before .before .before .before .before .before .before in
     let start = tested .before .before .before .before .before .before in
-    omega (arith, last-le _ _ _ _ _ (start .pre) _ _ _ _ (tested .before .loop .inv) (tested .loop-test .taken), tested .loop-test .taken)
+    omega (arith, last-le _ _ _ _ _ (start .pre) _ _ _ _ (tested .before .loop .inv) (omega (arith, tested .loop-test .taken)), tested .loop-test .taken)
 
 loop-less : tie.Need-loop-less Inv-loop μ-loop
 loop-less c =
     let tested = c .before .before .before .before .before .before .before .before in
     let start = tested .before .before .before .before .before .before in
-    omega (arith, last-le _ _ _ _ _ (start .pre) _ _ _ _ (tested .before .loop .inv) (tested .loop-test .taken), tested .loop-test .taken)
+    omega (arith, last-le _ _ _ _ _ (start .pre) _ _ _ _ (tested .before .loop .inv) (omega (arith, tested .loop-test .taken)), tested .loop-test .taken)
 
 loop-again : tie.Need-loop-again Inv-loop μ-loop
 loop-again c =
     let tested = c .before .before .before .before .before .before .before .before in
     let start = tested .before .before .before .before .before .before in
     let x = c .before .before .before .before .mark in
-    reach-next _ _ _ _ _ (start .pre) _ _ _ _ (tested .before .loop .inv) (tested .loop-test .taken) _ _ _ (x .kept .1 .1 .1 .1 .0)
+    reach-next _ _ _ _ _ (start .pre) _ _ _ _ (tested .before .loop .inv) (omega (arith, tested .loop-test .taken)) _ _ _ (x .kept .1 .1 .1 .1 .0)
     (x .kept .1 .1 .1 .1 .1 .0) (x .ensures)
 
 same-length : tie.Need-same-length Inv-loop μ-loop

@@ -21,8 +21,10 @@ returns c = more-charge _ _ _ _ _ (c .if1 .taken) (c .before .before .before .be
 leads-requires : tie.Need-leads-requires
 leads-requires c κs =
     let back = c .before .before .before .before .before .before .before .before .before .before .before .before in
+    let start = back .before .before .before .before .before .before .before .before .before .before .before in
     let k = back .seek-again .kept .1 .1 .1 .1 in
-    lead-asks _ _ _ _ _ _ _ _ (back .before .before .before .before .before .before .before .before .before .before .before .pre) _ _ _ (k .0) (k .1 .0) (k .1 .1 .0)
+    lead-asks _ _ _ _ _ _ _ _ (start .pre) _ (omega (arith, start .pre .source-in, start .pre .target-in))
+    (omega (arith, start .pre .source-in, start .pre .target-in)) _ _ _ (k .0) (k .1 .0) (k .1 .1 .0)
 
 returns-2 : tie.Need-returns-2
 returns-2 c =
