@@ -1,7 +1,7 @@
 -- From what best route gives back to what is written. Assumes nothing.
 use mathlib.Core.Path.{_≡_, refl, sym, ap, _∙_, subst}
 use mathlib.Core.List.{List}
-use Prim.Native.Nat.{ℕ, _-_, _≤_}
+use Prim.Native.Nat.{ℕ, _≤_}
 use native.Mathlib.Omega.{arith}
 use borrow.Author.Tests.{ne-eqb}
 use lib.ListN.{length, take, drop, length-append, length-drop}
@@ -15,9 +15,9 @@ use Rattle.planner.specs.declared.Planned.{Planned}
 use Rattle.planner.specs.declared.Planned.the-variants as planned
 use Rattle.planner.specs.declared.PlanNumbers.{PlanNumbers}
 use Rattle.planner.specs.declared.PlanQuestion.{PlanQuestion}
+use Rattle.lines.specs.Line.{ReadsQuery, query, bad}
+use Rattle.lines.specs.declared.Asked.the-variants as asked
 use Rattle.text.specs.Answer.{mostRoute, answerText, routeText, refusedText, noFile}
-use Rattle.text.specs.Line.{ReadsQuery, query, bad}
-use Rattle.text.specs.declared.line.Asked.the-variants as asked
 use Rattle.plan.specs.Response.{NoQuery, Responds, WithoutFiles}
 
 -- ---- the line

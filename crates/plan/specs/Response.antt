@@ -5,8 +5,8 @@ use Prim.Native.Nat.{ℕ}
 use lib.ListN.{length}
 use Rattle.planner.specs.Promises.{Plans}
 use Rattle.planner.specs.declared.PlanNumbers.{PlanNumbers}
+use Rattle.lines.specs.Line.{Line, question}
 use Rattle.text.specs.Answer.{mostRoute, answerText, badQuery, noFile}
-use Rattle.text.specs.Line.{Line, question}
 
 -- no query line stands at the start of the bytes
 abbrev pub NoQuery : List ℕ → Type 0

@@ -6,13 +6,13 @@ ghost use Rattle.plan.specs.Response.{Responds, WithoutFiles};
 use inputs::NODES_ROOM;
 use inputs::ROADS_ROOM;
 use libc::STDOUT_FILENO;
+use lines::Asked;
 use planner::Planned;
-use text::Asked;
 use text::MOST_ROUTE;
 use text::MOST_TEXT;
 
 // The longest query line: four numbers, each with the byte after it.
-const MOST_LINE: usize = 4 * (text::MOST_DIGITS + 1);
+const MOST_LINE: usize = 4 * (lines::MOST_DIGITS + 1);
 
 fn main() {
     let mut line = [0u8; MOST_LINE];
@@ -38,7 +38,7 @@ fn respond(line: &[u8], nodes: &[u8], roads: &[u8], out: &mut [u8; MOST_TEXT]) -
     ensures { λ r. ⌜ Counts r (now (out .exit)) ⌝ }
     ensures { λ r. ⌜ Responds (now (line .entry)) (now (nodes .entry)) (now (roads .entry)) (take r (now (out .exit))) ⌝ }
 {
-    let asked = text::read_query(line);
+    let asked = lines::read_query(line);
     let Asked::Query(question) = asked else {
         return text::write_bad_query(out);
     };
@@ -56,7 +56,7 @@ fn without_files(line: &[u8], out: &mut [u8; MOST_TEXT]) -> usize
     ensures { λ r. ⌜ Counts r (now (out .exit)) ⌝ }
     ensures { λ r. ⌜ WithoutFiles (now (line .entry)) (take r (now (out .exit))) ⌝ }
 {
-    let asked = text::read_query(line);
+    let asked = lines::read_query(line);
     match asked {
         Asked::Query(_) => text::write_no_file(out),
         Asked::Bad => text::write_bad_query(out),

@@ -17,9 +17,9 @@ use Rattle.planner.specs.declared.CheckNumbers.{CheckNumbers}
 use Rattle.depot.proofs.Filling.{cleared}
 use Rattle.depot.specs.Promise.{SetsOff, refused, known}
 use Rattle.depot.specs.declared.SetOffQuestion.{SetOffQuestion}
+use Rattle.lines.specs.Line.{ReadsDepot, depot, bad}
+use Rattle.lines.specs.declared.AskedDepot.the-variants as asked
 use Rattle.text.specs.Answer.{setOffText, signedLines, refusedText, noFile}
-use Rattle.text.specs.Line.{ReadsDepot, depot, bad}
-use Rattle.text.specs.declared.line.AskedDepot.the-variants as asked
 use Rattle.setoff.specs.Response.{NoQuery, Responds, WithoutFiles}
 
 -- ---- the line

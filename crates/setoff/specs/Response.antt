@@ -7,8 +7,8 @@ use lib.ListN.{length}
 use Rattle.network.specs.Files.{junctions, mostJunctions}
 use Rattle.planner.specs.declared.CheckNumbers.{CheckNumbers}
 use Rattle.depot.specs.Promise.{SetsOff}
+use Rattle.lines.specs.Line.{Line, depotQuestion}
 use Rattle.text.specs.Answer.{setOffText, badQuery, noFile}
-use Rattle.text.specs.Line.{Line, depotQuestion}
 
 -- no line of a depot stands at the start of the bytes
 abbrev pub NoQuery : List ℕ → Type 0

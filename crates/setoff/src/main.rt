@@ -7,12 +7,12 @@ ghost use Rattle.setoff.specs.Response.{Responds, WithoutFiles};
 use inputs::NODES_ROOM;
 use inputs::ROADS_ROOM;
 use libc::STDOUT_FILENO;
+use lines::AskedDepot;
 use network::Checked;
-use text::AskedDepot;
 use text::MOST_CHARGES;
 
 // The longest line of a depot: two numbers, each with the byte after it.
-const MOST_LINE: usize = 2 * (text::MOST_DIGITS + 1);
+const MOST_LINE: usize = 2 * (lines::MOST_DIGITS + 1);
 
 fn main() {
     let mut line = [0u8; MOST_LINE];
@@ -38,7 +38,7 @@ fn respond(line: &[u8], nodes: &[u8], roads: &[u8], out: &mut [u8; MOST_CHARGES]
     ensures { λ r. ⌜ Counts r (now (out .exit)) ⌝ }
     ensures { λ r. ⌜ Responds (now (line .entry)) (now (nodes .entry)) (now (roads .entry)) (take r (now (out .exit))) ⌝ }
 {
-    let asked = text::read_depot(line);
+    let asked = lines::read_depot(line);
     let AskedDepot::Depot(question) = asked else {
         return text::write_bad_query(out);
     };
@@ -57,7 +57,7 @@ fn without_files(line: &[u8], out: &mut [u8; MOST_CHARGES]) -> usize
     ensures { λ r. ⌜ Counts r (now (out .exit)) ⌝ }
     ensures { λ r. ⌜ WithoutFiles (now (line .entry)) (take r (now (out .exit))) ⌝ }
 {
-    let asked = text::read_depot(line);
+    let asked = lines::read_depot(line);
     match asked {
         AskedDepot::Depot(_) => text::write_no_file(out),
         AskedDepot::Bad => text::write_bad_query(out),

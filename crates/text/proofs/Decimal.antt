@@ -11,9 +11,10 @@ use borrow.Author.Tests.{lt-ltb, le-ltb, ltb-true, ltb-false}
 use lib.Dec.{ltb, lit<}
 use lib.ListN.{length, getD, length-append}
 use Rattle.io.specs.Digits.{digits, glyph, Fewest}
+use Rattle.lines.proofs.Spelled.{digits-snoc, spelled-snoc}
+use Rattle.lines.specs.Digits.{AllDigits, none, more, spelled}
 use Rattle.text.specs.Claims.{WrittenPlainly}
-use Rattle.text.specs.Digits.{AllDigits, none, more, spelled, spell, decimal}
-use Rattle.text.proofs.Digits.{digits-snoc, spelled-snoc}
+use Rattle.text.specs.Decimal.{spell, decimal}
 
 -- ---- a number is one digit, or the digits of its tenth and one more
 pub data Spelling (f n : ℕ) : List ℕ → Type 0 where

@@ -7,9 +7,9 @@ use native.Mathlib.Numerals.{add-one}
 use native.Mathlib.Omega.{arith}
 use lib.ListN.{length, take, getD, length-append}
 use lib.Seq.{take-suc, take-length}
+use Rattle.lines.specs.Line.{newline}
 use Rattle.text.specs.Answer.{numberLine, itemLines}
-use Rattle.text.specs.Digits.{decimal}
-use Rattle.text.specs.Line.{newline}
+use Rattle.text.specs.Decimal.{decimal}
 use Rattle.text.specs.Writing.{Puts}
 use Rattle.text.proofs.Decimal.{spell-length}
 use Rattle.text.proofs.Writing.{puts-none, puts-then, puts-as}

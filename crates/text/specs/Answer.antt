@@ -8,8 +8,8 @@ use lib.ListN.{take}
 use Rattle.network.specs.Files.{mostJunctions}
 use Rattle.planner.specs.declared.CheckNumbers.{CheckNumbers}
 use Rattle.planner.specs.declared.PlanNumbers.{PlanNumbers}
-use Rattle.text.specs.Digits.{decimal}
-use Rattle.text.specs.Line.{space, newline}
+use Rattle.lines.specs.Line.{space, newline}
+use Rattle.text.specs.Decimal.{decimal}
 
 -- the most roads of a route: it visits no junction twice
 abbrev pub mostRoute : ℕ

@@ -1,6 +1,4 @@
-pub mod Digits
-pub mod Line
+pub mod Decimal
 pub mod Answer
 pub mod Claims
-pub mod Taking
 pub mod Writing

@@ -5,8 +5,8 @@ use native.Mathlib.Omega.{arith}
 use borrow.Author.Needs.{needs}
 use lib.ListN.{length}
 use lib.Seq.{length-take-le}
-use Rattle.text.specs.Line.{ReadsQuery}
-use Rattle.text.specs.declared.line.Asked.the-variants as asked
+use Rattle.lines.specs.Line.{ReadsQuery}
+use Rattle.lines.specs.declared.Asked.the-variants as asked
 use Rattle.plan.specs.Response.{Responds}
 use Rattle.plan.proofs.Answered.{no-query, route-fits, route-text, refusal-text, responds}
 use Rattle.plan.proofs.respond.Statement.{statement}

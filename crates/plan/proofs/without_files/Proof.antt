@@ -1,7 +1,7 @@
 -- `plan::without_files` meets its contract. Assumes nothing.
 use mathlib.Core.Path.{subst}
 use borrow.Author.Needs.{needs}
-use Rattle.text.specs.Line.{ReadsQuery}
+use Rattle.lines.specs.Line.{ReadsQuery}
 use Rattle.plan.specs.Response.{WithoutFiles}
 use Rattle.plan.proofs.Answered.{no-query, no-file}
 use Rattle.plan.proofs.without_files.Statement.{statement}

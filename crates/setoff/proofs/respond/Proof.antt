@@ -6,8 +6,8 @@ use borrow.Author.Needs.{needs}
 use lib.ListN.{length}
 use lib.Seq.{length-take-le}
 use Rattle.network.specs.Files.{junctions}
-use Rattle.text.specs.Line.{ReadsDepot}
-use Rattle.text.specs.declared.line.AskedDepot.the-variants as asked
+use Rattle.lines.specs.Line.{ReadsDepot}
+use Rattle.lines.specs.declared.AskedDepot.the-variants as asked
 use Rattle.setoff.specs.Response.{Responds}
 use Rattle.setoff.proofs.Answered.{no-query, numbers-fit, numbers-written, refusal-written}
 use Rattle.setoff.proofs.respond.Statement.{statement}

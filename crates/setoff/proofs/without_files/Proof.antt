@@ -1,7 +1,7 @@
 -- `setoff::without_files` meets its contract. Assumes nothing.
 use mathlib.Core.Path.{subst}
 use borrow.Author.Needs.{needs}
-use Rattle.text.specs.Line.{ReadsDepot}
+use Rattle.lines.specs.Line.{ReadsDepot}
 use Rattle.setoff.specs.Response.{WithoutFiles}
 use Rattle.setoff.proofs.Answered.{no-query, no-file}
 use Rattle.setoff.proofs.without_files.Statement.{statement}

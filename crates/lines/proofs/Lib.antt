@@ -1,0 +1,3 @@
+pub mod Spelled
+pub mod Taking
+pub mod Lines

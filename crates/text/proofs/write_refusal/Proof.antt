@@ -1,0 +1,30 @@
+-- `text::write_refusal` meets its contract. Assumes nothing.
+use borrow.Author.Needs.{needs}
+use Rattle.text.specs.Answer.{refusedText}
+use Rattle.text.proofs.Writing.{puts-then, puts-counts}
+use Rattle.text.proofs.write_refusal.Statement.{statement}
+use Rattle.text.proofs.write_refusal.Tie as tie
+
+returns : tie.Need-returns
+unfolding refusedText
+returns c =
+    let line = c .before .before in
+    let space = line .before .before .before .before in
+    let number = space .before .before .before .before .before in
+    let word = number .before .before .before .before .put .ensures in
+    let all =
+    puts-then word (puts-then (number .put-decimal .ensures .0) (puts-then (space .put2 .ensures) (line .put-number-line .ensures .0))) in
+    (puts-counts all, all .text)
+
+pub write-refusal-spec : {M : Type 1} → statement M
+write-refusal-spec =
+    tie.close
+    (tie.spec
+    (λ c. search needs)
+    (λ c κs. search needs)
+    (λ c κs. search needs)
+    (λ c. search needs)
+    (λ c κs. search needs)
+    (λ c κs. search needs)
+    (λ c. search needs)
+    returns)
