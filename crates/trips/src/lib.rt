@@ -1,5 +1,4 @@
 // One trip: the best route, or why there is none. All searches of a trip share one set of lists.
-ghost use mathlib.Core.Path.{_≡_};
 ghost use Rattle.frontier.specs.Frontier.{AllZero};
 ghost use Rattle.network.specs.Reasons.{Reason};
 ghost use Rattle.search.specs.Chains.{Unchained};
