@@ -112,7 +112,7 @@ pub fn chain(roads: &[u8], reading: Reading, chains: &mut [u16])
 
 // Settles one junction after another, the greatest key first, until the target is settled or none
 // waits.
-pub fn explore(
+fn explore(
     nodes: &[u8],
     roads: &[u8],
     reading: Reading,

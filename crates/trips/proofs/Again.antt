@@ -1,13 +1,11 @@
 -- Another search in the lists of one after which nothing waits. Assumes nothing.
 use mathlib.Core.Path.{_≡_, refl}
 use mathlib.Core.List.{List}
-use mathlib.Core.Logic.{inl}
 use Prim.Native.Nat.{ℕ}
 use lib.ListN.{length}
-use Rattle.frontier.specs.Frontier.{entry, AllZero}
-use Rattle.walks.specs.Label.{Net, Best}
+use Rattle.frontier.specs.Frontier.{AllZero}
 use Rattle.search.specs.Chains.{Unchained}
-use Rattle.search.specs.Searches.{Explored, SeekAsks}
+use Rattle.search.specs.Searches.{SeekAsks}
 use Rattle.search.specs.declared.Reading.{Reading}
 use Rattle.search.specs.declared.Trip.{Trip}
 use Rattle.search.proofs.Seeking.{lent-on}
@@ -28,7 +26,3 @@ module _ (rd : Reading) (ns rs : List ℕ) (trip : Trip) (chains labels ways que
         no-label = z;
         no-key = a .no-key;
       }
-
-pub best-target : (N : Net) (n : ℕ) (trip : Trip) (labels ways queue : List ℕ) → Explored N n trip labels ways queue
-    → Best N (trip .source) (trip .label) (trip .target) (entry labels (trip .target))
-best-target N n trip labels ways queue e = e .best (trip .target) (inl refl)

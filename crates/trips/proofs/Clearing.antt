@@ -1,11 +1,11 @@
 -- The loop that takes the roads off their chains and the labels away. Assumes nothing.
-use mathlib.Core.Path.{_≡_, ap, _∙_}
+use mathlib.Core.Path.{_≡_, refl, ap, _∙_}
 use mathlib.Core.List.{List}
 use Prim.Native.Nat.{ℕ, _+_, _≤_, _<_}
 use native.Mathlib.Decide.{ℕ-discrete, decLt}
 use native.Mathlib.Omega.{arith}
 use lib.ListN.{length, set, length-set, List·getD-eq-default}
-use lib.Seq.{getD-set-same, getD-set-other}
+use Rattle.frontier.proofs.Stores.{put-of}
 use Rattle.frontier.specs.Frontier.{entry, AllZero}
 use Rattle.network.specs.Files.{mostJunctions}
 use Rattle.search.specs.Chains.{Unchained}
@@ -24,8 +24,8 @@ clearing-none chains labels a =
 
 zero-at : (xs : List ℕ) (v : ℕ) → v < length xs → ((i : ℕ) → i < v → entry xs i ≡ 0) → (i : ℕ) → i < v + 1 → Dec (i ≡ v)
     → entry (set xs v 0) i ≡ 0
-zero-at xs v h z i l (yes e) = ap (entry (set xs v 0)) e ∙ getD-set-same xs v 0 0 h
-zero-at xs v h z i l (no e) = getD-set-other xs v i 0 0 e ∙ z i (omega arith)
+zero-at xs v h z i l (yes e) = ap (entry (set xs v 0)) e ∙ put-of xs h refl .here
+zero-at xs v h z i l (no e) = put-of xs h refl .rest i e ∙ z i (omega arith)
 
 module _ (chains labels : List ℕ) (v : ℕ) (c : Clearing chains labels v) where
   pub clearing-more : v < mostJunctions → Clearing (set chains v 0) (set labels v 0) (v + 1)

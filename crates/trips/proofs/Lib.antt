@@ -5,5 +5,6 @@ mod Again
 mod Listing
 mod Marking
 mod Reaching
+mod Leading
 mod Reasoning
 mod Finding

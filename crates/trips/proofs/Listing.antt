@@ -23,7 +23,7 @@ marked-in xs v h = go (decLt v (length xs))
 -- ---- a new mark
 
 module _ (labels : List ℕ) (v : ℕ) (within : v < length labels) (none : entry labels v ≡ 0) where
-  put-mark : Put (entry labels) (entry (set labels v 1)) v 1
+  pub put-mark : Put (entry labels) (entry (set labels v 1)) v 1
   put-mark = put-of labels within refl
 
   pub one-fewer : suc (unmarked (set labels v 1)) ≡ unmarked labels

@@ -1,25 +1,20 @@
 -- The junctions that roads lead to from the source: the roads of one listed junction after another are followed. Assumes
 -- nothing.
-use mathlib.Core.Path.{_≡_, refl, sym, ap, _∙_, subst}
+use mathlib.Core.Path.{_≡_, sym, ap, _∙_, subst}
 use mathlib.Core.List.{List, [], _∷_, _++_}
 use mathlib.Core.Logic.{_⊎_, inl, inr}
 use Prim.Native.Nat.{ℕ, _+_, _≤_, _<_}
 use native.Mathlib.Decide.{ℕ-discrete}
 use native.Mathlib.Omega.{arith}
-use borrow.Author.Tests.{ltb-true, ltb-false}
-use lib.Dec.{ltb}
 use lib.ListN.{length, set, length-set}
-use Rattle.frontier.proofs.Stores.{put-of}
-use Rattle.frontier.specs.Frontier.{entry, AllZero, Put}
+use Rattle.frontier.specs.Frontier.{entry, Put}
 use Rattle.network.specs.Files.{mostJunctions}
 use Rattle.walks.proofs.Turned.{walk-then}
 use Rattle.walks.specs.Walk.{Roads, Walk, stay, go}
-use Rattle.search.specs.Chains.{Unchained, Chained, ChainAsks}
-use Rattle.search.specs.declared.Trip.{Trip}
 use Rattle.search.proofs.Counting.{unsettled-all}
 use Rattle.search.proofs.Puts.{put-only}
-use Rattle.trips.specs.Marks.{Listed, MarkAsks, From, Marks, ReachAsks, Reaches, LeadAsks, Leads}
-use Rattle.trips.proofs.Listing.{listed-new}
+use Rattle.trips.specs.Marks.{Listed, MarkAsks, From, Marks, ReachAsks, Reaches}
+use Rattle.trips.proofs.Listing.{put-mark, listed-new}
 
 -- the roads of the first ones are followed
 pub record ReachLoop (R : Roads) (source : ℕ) (labels ways : List ℕ) (first last : ℕ) : Type 0 where
@@ -40,6 +35,12 @@ closed-walk R L c h (go k l e walk) = closed-walk R L c (c k l (omega (arith, ap
 module _ (R : Roads) (chains : List ℕ) (source : ℕ) (labels ways : List ℕ) (a : ReachAsks R chains source labels ways) where
   -- ---- the source alone
 
+  within : source < length labels
+  within = omega (arith, a .source-in, a .tracked .long-labels)
+
+  put : Put (entry labels) (entry (set labels source 1)) source 1
+  put = put-mark labels source within (a .no-label source)
+
   pub reach-start : ReachLoop R source (set labels source 1) (set ways 0 source) 0 1
   reach-start =
       record {
@@ -47,8 +48,7 @@ module _ (R : Roads) (chains : List ℕ) (source : ℕ) (labels ways : List ℕ)
         long-ways = length-set ways 0 source ∙ a .tracked .long-ways;
         low = omega arith;
         listed =
-            listed-new labels source (omega (arith, a .source-in, a .tracked .long-labels)) (a .no-label source) ways 0
-            (omega (arith, a .tracked .long-ways))
+            listed-new labels source within (a .no-label source) ways 0 (omega (arith, a .tracked .long-ways))
             (record {
               counted =
                   omega (arith, unsettled-all (entry labels) (λ v. 0) (λ v h. absurd (omega (arith, a .no-label v))) (length labels));
@@ -59,9 +59,6 @@ module _ (R : Roads) (chains : List ℕ) (source : ℕ) (labels ways : List ℕ)
         reached = λ v h. ([], subst (λ (w : ℕ). Walk R source [] w) (sym (put-only put (a .no-label) v h)) stay);
         followed = λ i k h l e. absurd (omega arith);
       }
-    where
-      put : Put (entry labels) (entry (set labels source 1)) source 1
-      put = put-of labels (omega (arith, a .source-in, a .tracked .long-labels)) refl
 
   -- ---- the next one
 
@@ -121,33 +118,3 @@ module _ (R : Roads) (chains : List ℕ) (source : ℕ) (labels ways : List ℕ)
       closed k h m =
           let f = i .listed .found (R .tail k) m in
           i .followed (f .0) k (omega (arith, f .1)) h (sym (f .2))
-
--- ---- in lists that were cleared
-
-module _ (R : Roads) (trip : Trip) (chains labels ways : List ℕ) (a : LeadAsks R trip chains labels ways) where
-  pub lead-chains : (chains' : List ℕ) → length chains' ≡ length chains → Unchained chains' → ChainAsks R chains'
-  lead-chains chains' c u =
-      record { few = a .few-roads; within = a .tails-in; long = c ∙ a .cleared .long-chains; empty = u }
-
-  pub reach-asks : (chains' labels' ways' : List ℕ) (n : ℕ) → n ≡ R .count → Chained R n chains' → length labels' ≡ length labels
-      → length ways' ≡ length ways → AllZero labels' → ReachAsks R chains' (trip .source) labels' ways'
-  reach-asks chains' labels' ways' n e c l w z =
-      record {
-        tracked =
-            record {
-              chained = subst (λ (m : ℕ). Chained R m chains') e c;
-              few-roads = a .few-roads;
-              within = a .heads-in;
-              long-labels = l ∙ a .cleared .long-labels;
-              long-ways = w ∙ a .long-ways;
-            };
-        source-in = a .source-in;
-        no-label = z;
-      }
-
-pub leads : (R : Roads) (v w : ℕ) (labels : List ℕ) → Reaches R v labels → Leads R v w (ltb 0 (entry labels w))
-leads R v w labels r =
-    record {
-      by = λ e. r .by w (ltb-true 0 (entry labels w) e);
-      none = λ e ks walk. omega (arith, ltb-false 0 (entry labels w) e, r .all walk);
-    }

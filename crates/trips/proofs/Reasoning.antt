@@ -47,7 +47,7 @@ module _ (M : ℕ) (ns rs : List ℕ) (trip : Trip) (chains labels ways queue : 
         heads-in = λ k h. omega (arith, heads-in (backward M) ns rs r k (omega (arith, n)), r .few);
         source-in = omega (arith, r .few);
         target-in = omega (arith, r .few);
-        cleared = record { long-chains = c ∙ a .lent .long; long-labels = l ∙ a .lent .sized .long-labels };
+        sizes = record { long-chains = c ∙ a .lent .long; long-labels = l ∙ a .lent .sized .long-labels };
         long-ways = w ∙ a .lent .sized .long-ways;
       }
 

@@ -75,7 +75,7 @@ pub record LeadAsks (R : Roads) (trip : Trip) (chains labels ways : List ℕ) : 
   pub heads-in : (k : ℕ) → k < R .count → R .head k < mostJunctions
   pub source-in : trip .source < mostJunctions
   pub target-in : trip .target < mostJunctions
-  pub cleared : ClearAsks chains labels
+  pub sizes : ClearAsks chains labels
   pub long-ways : length ways ≡ mostJunctions
 
 -- whether a walk leads from v to w

@@ -2,7 +2,7 @@
 use mathlib.Core.Path.{refl, sym}
 use borrow.Author.Needs.{needs}
 use Rattle.search.proofs.Laws.{count-is}
-use Rattle.trips.proofs.Reaching.{lead-chains, reach-asks, leads}
+use Rattle.trips.proofs.Leading.{lead-chains, reach-asks, leads}
 use Rattle.trips.proofs.leads.Statement.{statement}
 use Rattle.trips.proofs.leads.Tie as tie
 

@@ -23,9 +23,6 @@ abbrev μ-loop : tie.MeasureT-loop
 
 -- ---- the beginning
 
-mul-next : tie.Need-mul-next Inv-loop μ-loop
-mul-next c = omega (arith, u-in _ _ _ _ _ _ (c .before .before .before .before .pre))
-
 shared-slice-read-next : tie.Need-shared-slice-read-next Inv-loop μ-loop
 shared-slice-read-next c =
     let start = c .before .before .before .before .before in
@@ -75,57 +72,31 @@ within c =
     let start = tested .before .before .before .before .before .before .before in
     omega (arith, left-at c, start .pre .tracked .within _ (road-in tested))
 
-mul-if1 : tie.Need-mul-if1 Inv-loop μ-loop
-mul-if1 c = omega (arith, within c)
-
-slice-read-if1 : tie.Need-slice-read-if1 Inv-loop μ-loop
-slice-read-if1 c = omega (arith, within (c .before), c .before .before .before .before .loop .inv .long-labels)
-
 -- ---- a junction not yet marked
 
-listed : (c : tie.Then1 Inv-loop μ-loop) → c .before .before .before .before .before .loop .end < length (c .before .before .before .before .before .loop .ways)
+-- there is a place for it in the list
+listed : (c : tie.Then1 Inv-loop μ-loop) →
+    let turn = c .before .before .before .before .before in
+    turn .loop .end < length (turn .loop .ways)
 listed c =
     let tested = c .before .before .before .before in
     let start = tested .before .before .before .before .before .before .before in
     room _ _ _ _ _ _ (start .pre) _ _ _ _ (tested .before .loop .inv) (tested .loop-test .taken) _ (left-at (c .before .before)) (c .if1 .taken)
-
-mul-labels : tie.Need-mul-labels Inv-loop μ-loop
-mul-labels c = omega (arith, within (c .before .before))
-
-slice-write-labels : tie.Need-slice-write-labels Inv-loop μ-loop
-slice-write-labels c = omega (arith, within (c .before .before), c .before .before .before .before .before .loop .inv .long-labels)
-
-cast-ways : tie.Need-cast-ways Inv-loop μ-loop
-cast-ways c = omega (arith, within (c .before .before))
-
-mul-ways : tie.Need-mul-ways Inv-loop μ-loop
-mul-ways c = omega (arith, listed c, c .before .before .before .before .before .loop .inv .long-ways)
-
-slice-write-ways : tie.Need-slice-write-ways Inv-loop μ-loop
-slice-write-ways c = listed c
-
-add-end : tie.Need-add-end Inv-loop μ-loop
-add-end c = omega (arith, listed c, c .before .before .before .before .before .loop .inv .long-ways)
 
 -- ---- the next road
 
 few : (c : tie.In-loop Inv-loop μ-loop) → c .before .loop .next - 1 < mostRoads
 few c = omega (arith, road-in c, c .before .before .before .before .before .before .before .pre .tracked .few-roads)
 
-add-next : tie.Need-add-next Inv-loop μ-loop
-add-next c = omega (arith, few (c .before .before .before .before))
-
-mul-next-2 : tie.Need-mul-next-2 Inv-loop μ-loop
-mul-next-2 c = omega (arith, few (c .before .before .before .before))
-
 shared-slice-read-next-2 : tie.Need-shared-slice-read-next-2 Inv-loop μ-loop
-shared-slice-read-next-2 c = omega (arith, few (c .before .before .before .before .before), c .before .before .before .before .before .before .before .before .before .before .before .before .pre .tracked .chained .long)
+shared-slice-read-next-2 c =
+    let tested = c .before .before .before .before .before in
+    omega (arith, few tested, tested .before .before .before .before .before .before .before .pre .tracked .chained .long)
 
 cast-next-2 : tie.Need-cast-next-2 Inv-loop μ-loop
-cast-next-2 c = omega (arith, less (c .before .before .before .before .before), c .before .before .before .before .before .before .loop .inv .low, c .before .before .before .before .before .before .before .before .before .before .before .before .pre .tracked .few-roads)
-
-loop-less : tie.Need-loop-less Inv-loop μ-loop
-loop-less c = less (c .before .before .before .before .before)
+cast-next-2 c =
+    let tested = c .before .before .before .before .before in
+    omega (arith, less tested, tested .before .loop .inv .low, tested .before .before .before .before .before .before .before .pre .tracked .few-roads)
 
 loop-again : tie.Need-loop-again Inv-loop μ-loop
 loop-again c =
@@ -160,26 +131,26 @@ mark-spec =
     (tie.spec
     Inv-loop
     μ-loop
-    mul-next
+    (λ c. omega (arith, u-in _ _ _ _ _ _ (c .before .before .before .before .pre)))
     shared-slice-read-next
     cast-next
     (λ c. mark-start _ _ _ _ _ _ (c .before .before .before .before .before .pre))
     (λ c. omega (arith, c .loop-test .taken))
     road-at-requires
     (λ c κs. search needs)
-    mul-if1
-    slice-read-if1
-    mul-labels
-    slice-write-labels
-    cast-ways
-    mul-ways
-    slice-write-ways
-    add-end
-    add-next
-    mul-next-2
+    (λ c. omega (arith, within c))
+    (λ c. omega (arith, within (c .before), c .before .before .before .before .loop .inv .long-labels))
+    (λ c. omega (arith, within (c .before .before)))
+    (λ c. omega (arith, within (c .before .before), c .before .before .before .before .before .loop .inv .long-labels))
+    (λ c. omega (arith, within (c .before .before)))
+    (λ c. omega (arith, listed c, c .before .before .before .before .before .loop .inv .long-ways))
+    listed
+    (λ c. omega (arith, listed c, c .before .before .before .before .before .loop .inv .long-ways))
+    (λ c. omega (arith, few (c .before .before .before .before)))
+    (λ c. omega (arith, few (c .before .before .before .before)))
     shared-slice-read-next-2
     cast-next-2
-    loop-less
+    (λ c. less (c .before .before .before .before .before))
     loop-again
     same-length
     same-length-2

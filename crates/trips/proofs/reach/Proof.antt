@@ -1,7 +1,7 @@
 -- `trips::reach` meets its contract. Invariant: the roads of the first listed junctions are followed. Measure: the junctions
 -- left. In a turn, `tested` is where it begins, `start` where the function begins. Assumes nothing.
 use mathlib.Core.Path.{sym, _∙_}
-use Prim.Native.Nat.{_-_}
+use Prim.Native.Nat.{_-_, _<_}
 use native.Mathlib.Omega.{arith}
 use Rattle.network.specs.Files.{mostJunctions}
 use Rattle.search.specs.Reading.{net}
@@ -22,52 +22,33 @@ slice-write-labels c =
     let start = c .before .before .before .before in
     omega (arith, start .pre .source-in, start .pre .tracked .long-labels)
 
-mul-u : tie.Need-mul-u Inv-loop μ-loop
-mul-u c =
-    let start = c .before .before .before .before .before .before in
-    omega (arith, last-le _ _ _ _ _ (start .pre) _ _ _ _ (c .before .loop .inv) (omega (arith, c .loop-test .taken)), c .loop-test .taken)
+-- there is a next one
+more : (c : tie.In-loop Inv-loop μ-loop) → c .before .loop .first < c .before .loop .last
+more c = omega (arith, c .loop-test .taken)
 
-slice-read-u : tie.Need-slice-read-u Inv-loop μ-loop
-slice-read-u c =
-    let tested = c .before in
-    let start = tested .before .before .before .before .before .before in
-    omega (
-      arith,
-      last-le _ _ _ _ _ (start .pre) _ _ _ _ (tested .before .loop .inv) (omega (arith, tested .loop-test .taken)),
-      tested .loop-test .taken,
-      tested .before .loop .inv .long-ways,
-    )
+below : (c : tie.In-loop Inv-loop μ-loop) → c .before .loop .first < mostJunctions
+below c =
+    let start = c .before .before .before .before .before .before in
+    omega (arith, last-le _ _ _ _ _ (start .pre) _ _ _ _ (c .before .loop .inv) (more c), more c)
 
 cast-u : tie.Need-cast-u Inv-loop μ-loop
 cast-u c =
     let tested = c .before in
     let start = tested .before .before .before .before .before .before in
-    omega (arith, u-in _ _ _ _ _ _ (mark-asks _ _ _ _ _ (start .pre) _ _ _ _ (tested .before .loop .inv) (omega (arith, tested .loop-test .taken))))
+    omega (arith, u-in _ _ _ _ _ _ (mark-asks _ _ _ _ _ (start .pre) _ _ _ _ (tested .before .loop .inv) (more tested)))
 
 mark-requires : tie.Need-mark-requires Inv-loop μ-loop
 mark-requires c κs =
     let tested = c .before .before .before in
     let start = tested .before .before .before .before .before .before in
-    mark-asks _ _ _ _ _ (start .pre) _ _ _ _ (tested .before .loop .inv) (omega (arith, tested .loop-test .taken))
-
-add-first : tie.Need-add-first Inv-loop μ-loop
-add-first c =
-    let tested = c .before .before .before .before .before .before .before .before in
-    let start = tested .before .before .before .before .before .before in
-    omega (arith, last-le _ _ _ _ _ (start .pre) _ _ _ _ (tested .before .loop .inv) (omega (arith, tested .loop-test .taken)), tested .loop-test .taken)
-
-loop-less : tie.Need-loop-less Inv-loop μ-loop
-loop-less c =
-    let tested = c .before .before .before .before .before .before .before .before in
-    let start = tested .before .before .before .before .before .before in
-    omega (arith, last-le _ _ _ _ _ (start .pre) _ _ _ _ (tested .before .loop .inv) (omega (arith, tested .loop-test .taken)), tested .loop-test .taken)
+    mark-asks _ _ _ _ _ (start .pre) _ _ _ _ (tested .before .loop .inv) (more tested)
 
 loop-again : tie.Need-loop-again Inv-loop μ-loop
 loop-again c =
     let tested = c .before .before .before .before .before .before .before .before in
     let start = tested .before .before .before .before .before .before in
     let x = c .before .before .before .before .mark in
-    reach-next _ _ _ _ _ (start .pre) _ _ _ _ (tested .before .loop .inv) (omega (arith, tested .loop-test .taken)) _ _ _ (x .kept .1 .1 .1 .1 .0)
+    reach-next _ _ _ _ _ (start .pre) _ _ _ _ (tested .before .loop .inv) (more tested) _ _ _ (x .kept .1 .1 .1 .1 .0)
     (x .kept .1 .1 .1 .1 .1 .0) (x .ensures)
 
 same-length : tie.Need-same-length Inv-loop μ-loop
@@ -96,12 +77,12 @@ reach-spec =
     (λ c. omega (arith, c .before .before .before .before .pre .source-in))
     (λ c. omega (arith, c .before .before .before .before .pre .tracked .long-ways))
     (λ c. reach-start _ _ _ _ _ (c .before .before .before .before .pre))
-    mul-u
-    slice-read-u
+    (λ c. omega (arith, below c))
+    (λ c. omega (arith, below (c .before), c .before .before .loop .inv .long-ways))
     cast-u
     mark-requires
-    add-first
-    loop-less
+    (λ c. omega (arith, below (c .before .before .before .before .before .before .before .before)))
+    (λ c. omega (arith, below (c .before .before .before .before .before .before .before .before)))
     loop-again
     same-length
     same-length-2

@@ -12,8 +12,9 @@ seek-again-requires c κs = again-asks _ _ _ _ _ _ _ _ (c .before .before .befor
 
 sub-t24 : tie.Need-sub-t24
 sub-t24 c =
-    let a = c .before .before .before .before .before .before .before .before .before .before .before .before .before .before .before .before .before .before .before .before .args in
-    omega (arith, best-le (backward (a .battery)) (a .roads .now) _ _ _ _ (omega arith) (c .before .before .before .before .before .before .before .before .before .seek-again .ensures))
+    let back = c .before .before .before .before .before .before .before .before .before in
+    let a = back .before .before .before .before .before .before .before .before .before .before .before .args in
+    omega (arith, best-le (backward (a .battery)) (a .roads .now) _ _ _ _ (omega arith) (back .seek-again .ensures))
 
 returns : tie.Need-returns
 returns c = more-charge _ _ _ _ _ (c .if1 .taken) (c .before .before .before .before .before .before .before .before .before .seek-again .ensures)
@@ -28,8 +29,10 @@ leads-requires c κs =
 
 returns-2 : tie.Need-returns-2
 returns-2 c =
-    let back = c .before .before .before .before .before .before .before .before .before .before .before .before .before .before .before .before .before .before .before .before in
-    never-enough _ _ _ _ _ (c .before .before .before .before .before .before .before .leads .ensures) (c .if2 .taken) _ (omega (arith, c .before .before .before .before .before .before .before .before .before .before .before .if1 .left)) (back .seek-again .ensures)
+    let led = c .before .before .before .before .before .before .before in
+    let back = led .before .before .before .before .before .before .before .before .before .before .before .before .before in
+    never-enough _ _ _ _ _ (led .leads .ensures) (c .if2 .taken) _ (omega (arith, led .before .before .before .before .if1 .left))
+    (back .seek-again .ensures)
 
 returns-3 : tie.Need-returns-3
 returns-3 c = not-joined _ _ _ _ _ (c .before .before .before .before .before .before .before .leads .ensures) (c .if2 .left)

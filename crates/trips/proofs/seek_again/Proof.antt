@@ -1,7 +1,9 @@
 -- `trips::seek_again` meets its contract. Assumes nothing.
+use mathlib.Core.Path.{refl}
+use mathlib.Core.Logic.{inl}
 use native.Mathlib.Omega.{arith}
 use borrow.Author.Needs.{needs}
-use Rattle.trips.proofs.Again.{clear-asks, seek-asks, best-target}
+use Rattle.trips.proofs.Again.{clear-asks, seek-asks}
 use Rattle.trips.proofs.seek_again.Statement.{statement}
 use Rattle.trips.proofs.seek_again.Tie as tie
 
@@ -34,7 +36,7 @@ slice-read-result c =
     )
 
 returns : tie.Need-returns
-returns c = best-target _ _ _ _ _ _ (c .before .before .before .before .before .before .before .before .before .seek .ensures)
+returns c = c .before .before .before .before .before .before .before .before .before .seek .ensures .best _ (inl refl)
 
 pub seek-again-spec : {M : Type 1} → statement M
 seek-again-spec =
