@@ -6,7 +6,7 @@ use native.Mathlib.Decide.{ℕ-discrete, decLt}
 use native.Mathlib.Omega.{arith}
 use lib.ListN.{length, set, length-set}
 use lib.Seq.{getD-set-same, set-set, set-getD}
-use Rattle.frontier.specs.Frontier.{places, keysFrom, entry, keyAt, Small, Put, Frontier, Raises, Removes, Now}
+use Rattle.frontier.specs.Frontier.{places, treeFrom, keysFrom, entry, keyAt, Small, Put, Frontier, Raises, Removes, Now}
 use Rattle.frontier.specs.Groups.{Run, Regrouped, Lifted}
 use Rattle.frontier.proofs.Stores.{put-of}
 use Rattle.frontier.proofs.Level.{above₁, above₂, above₃, Levels, Due, run-group, greatest-raise, due-key, due-next, due-raise, due-top}
@@ -68,9 +68,15 @@ module _ {queue one two three queue' : List ℕ} {v key x y z : ℕ} where
     whole = ap (λ (n : ℕ). n % 8) (p .long) ∙ f .whole;
     small = s;
     tells = λ u h. tells u h (ℕ-discrete u v);
+    unused = λ i t. unused i t ∙ f .unused i t;
     level = l;
   }
     where
+      unused : (i : ℕ) → i < treeFrom → entry queue' i ≡ entry queue i
+      unused i t =
+          p .fourth .rest i (λ s. omega arith) ∙ p .third .rest i (λ s. omega arith) ∙ p .second .rest i (λ s. omega arith)
+          ∙ p .first .rest i (λ s. omega arith)
+
       put : Put (keyAt queue) (keyAt queue') v key
       put = puts-key p b
 
@@ -120,9 +126,9 @@ raised {queue} {one} {two} {three} {queue'} {top} {v} {key} {r} m e₁ e₂ e₃
     go (no n) =
         let b : v < places = omega (arith, m .tells (omega arith)) in
         let p = puts-of queue one two three (m .within) e₁ e₂ e₃ e₄ in
-        let d₁ : Rising one (above₁ v) key = due-raise key (due-key (f .level) (omega arith)) (p .first) (omega arith) (omega arith) in
-        let d₂ : Rising two (above₂ v) key = due-raise key d₁ (p .second) (omega arith) (omega arith) in
-        let d₃ : Rising three (above₃ v) key = due-raise key d₂ (p .third) (omega arith) (omega arith) in
+        let d₁ : Rising one (above₁ v) key = due-raise key (due-key (f .level) (omega arith)) (p .first) (omega arith) (omega arith) (omega arith) in
+        let d₂ : Rising two (above₂ v) key = due-raise key d₁ (p .second) (omega arith) (omega arith) (omega arith) in
+        let d₃ : Rising three (above₃ v) key = due-raise key d₂ (p .third) (omega arith) (omega arith) (omega arith) in
         let put : Put (keyAt queue) (keyAt queue') v (max (keyAt queue v) key) = puts-key p b in
         record {
           put = put;

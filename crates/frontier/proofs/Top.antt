@@ -1,18 +1,18 @@
 -- The greatest key of a queue. Assumes nothing.
-use mathlib.Core.Path.{_≡_, refl, ap, _∙_}
-use mathlib.Core.Logic.{_⊎_, inl, inr}
+use mathlib.Core.Path.{_≡_, refl, sym, ap, _∙_}
+use mathlib.Core.Logic.{_⊎_, _≢_, inl, inr}
 use mathlib.Core.List.{List}
 use Prim.Native.Nat.{ℕ, _+_, _*_, _-_, _%_, _^_, _≤_, _<_, max}
 use native.Mathlib.Decide.{ℕ-discrete, decLt}
 use native.Mathlib.Omega.{arith}
-use Rattle.frontier.specs.Frontier.{places, keysFrom, entry, keyAt, Greatest, Put, Frontier, Top}
+use Rattle.frontier.specs.Frontier.{places, treeFrom, keysFrom, entry, keyAt, Greatest, Put, Frontier, Top}
 use Rattle.frontier.proofs.Level.{above₁, above₂, above₃}
 
 -- the greatest of the top level is the greatest key
 pub top-of : {queue : List ℕ} {r : ℕ} → Frontier queue → Greatest (entry queue) 0 r → Top queue r
 top-of {queue} {r} f t = record {
   most = λ v. most v (decLt 0 (keyAt queue v));
-  is = is (key .0 - keysFrom) (ap (entry queue) (omega (arith, key .1)) ∙ key .3) (ℕ-discrete r 0);
+  is = is (ℕ-discrete r 0);
 }
   where
     most : (v : ℕ) → Dec (0 < keyAt queue v) → keyAt queue v ≤ r
@@ -20,26 +20,38 @@ top-of {queue} {r} f t = record {
         let b : v < places = omega (arith, f .tells v h) in
         omega (
           arith,
-          f .level (above₁ v) (omega arith) .most (keysFrom + v) (omega arith),
-          f .level (above₂ v) (omega arith) .most (above₁ v) (omega arith),
-          f .level (above₃ v) (omega arith) .most (above₂ v) (omega arith),
+          f .level (above₁ v) (omega arith) (omega arith) .most (keysFrom + v) (omega arith),
+          f .level (above₂ v) (omega arith) (omega arith) .most (above₁ v) (omega arith),
+          f .level (above₃ v) (omega arith) (omega arith) .most (above₂ v) (omega arith),
           t .most (above₃ v) (omega arith),
         )
     most v (no h) = omega arith
 
     -- a key that is r, one level down at a time
-    below : (a b : ℕ) → b ≤ keysFrom → (i : ℕ) × (a ≤ i) × (i < b) × (entry queue i ≡ r)
-        → (j : ℕ) × (a * 8 + 8 ≤ j) × (j < b * 8 + 8) × (entry queue j ≡ r)
-    below a b h (i, l, u, e) = let (j, g, e') = f .level i (omega arith) .is in (j, omega arith, omega arith, e' ∙ e)
+    below : (a b : ℕ) → treeFrom ≤ a → b ≤ keysFrom → (i : ℕ) × (a ≤ i) × (i < b) × (entry queue i ≡ r)
+        → (j : ℕ) × ((a - 3) * 8 ≤ j) × (j < (b - 3) * 8) × (entry queue j ≡ r)
+    below a b l' h (i, l, u, e) = let (j, g, e') = f .level i (omega arith) (omega arith) .is in (j, omega arith, omega arith, e' ∙ e)
 
-    key : (j : ℕ) × (keysFrom ≤ j) × (j < 4680) × (entry queue j ≡ r)
-    key =
-        below 72 584 (omega arith)
-        (below 8 72 (omega arith) (below 0 8 (omega arith) (t .is .0, omega arith, omega (arith, t .is .1), t .is .2)))
+    -- where r is not 0, it stands at the top
+    at-top : r ≢ 0 → treeFrom ≤ t .is .0
+    at-top z = go (decLt (t .is .0) treeFrom)
+      where
+        go : Dec (t .is .0 < treeFrom) → treeFrom ≤ t .is .0
+        go (yes u) = absurd (z (sym (t .is .2) ∙ f .unused (t .is .0) u))
+        go (no u) = omega arith
 
-    is : (v : ℕ) → keyAt queue v ≡ r → Dec (r ≡ 0) → (r ≡ 0) ⊎ (keyAt queue (r % places) ≡ r)
-    is v e (yes z) = inl z
-    is v e (no z) = let told : r % places ≡ v = rw e at (f .tells v (omega arith)) in inr (ap (keyAt queue) told ∙ e)
+    key : r ≢ 0 → (j : ℕ) × (keysFrom ≤ j) × (j < 2344) × (entry queue j ≡ r)
+    key z =
+        below 40 296 (omega arith) (omega arith)
+        (below 8 40 (omega arith) (omega arith)
+        (below 4 8 (omega arith) (omega arith) (t .is .0, at-top z, omega (arith, t .is .1), t .is .2)))
+
+    of-key : r ≢ 0 → (v : ℕ) → keyAt queue v ≡ r → keyAt queue (r % places) ≡ r
+    of-key z v e = let told : r % places ≡ v = rw e at (f .tells v (omega arith)) in ap (keyAt queue) told ∙ e
+
+    is : Dec (r ≡ 0) → (r ≡ 0) ⊎ (keyAt queue (r % places) ≡ r)
+    is (yes z) = inl z
+    is (no z) = inr (of-key z (key z .0 - keysFrom) (ap (entry queue) (omega (arith, key z .1)) ∙ key z .3))
 
 -- the greatest key after a key has risen
 pub top-raise : {queue queue' : List ℕ} {top v : ℕ} (key : ℕ) → Top queue top → Put (keyAt queue) (keyAt queue') v (max (keyAt queue v) key)

@@ -1,18 +1,23 @@
--- The queue of a search, as a tree in one list: entry i is the greatest of the group of eight i + 1, for three levels, and then
--- come the keys. It may have any whole number of groups; past the end every entry is 0. No entry's promise cites this file.
+-- The queue of a search, as a tree in one list: entry i is the greatest of the group of eight i - 3, for three levels, and then
+-- come the keys. The first four entries fill the top's group and are 0. It may have any whole number of groups; past the end every
+-- entry is 0. No entry's promise cites this file.
 use mathlib.Core.Path.{_≡_}
 use mathlib.Core.List.{List}
 use mathlib.Core.Logic.{_⊎_, _≢_}
-use Prim.Native.Nat.{ℕ, _+_, _/_, _%_, _^_, _≤_, _<_}
+use Prim.Native.Nat.{ℕ, _+_, _-_, _/_, _%_, _^_, _≤_, _<_}
 use lib.ListN.{length, getD}
 
 -- how many places a key can tell
 abbrev pub places : ℕ
-places = 4096
+places = 2048
 
--- where the keys begin: after 8, 64 and 512 entries
+-- where the tree begins
+abbrev pub treeFrom : ℕ
+treeFrom = 4
+
+-- where the keys begin: after 4, 32 and 256 entries of the tree
 abbrev pub keysFrom : ℕ
-keysFrom = 584
+keysFrom = 296
 
 abbrev pub entry : List ℕ → ℕ → ℕ
 entry queue i = getD queue i 0
@@ -45,7 +50,8 @@ pub record Frontier (queue : List ℕ) : Type 0 where
   pub whole : length queue % 8 ≡ 0
   pub small : Small queue
   pub tells : (v : ℕ) → 0 < keyAt queue v → keyAt queue v % places ≡ v
-  pub level : (i : ℕ) → i < keysFrom → Greatest (entry queue) (i + 1) (entry queue i)
+  pub unused : (i : ℕ) → i < treeFrom → entry queue i ≡ 0
+  pub level : (i : ℕ) → treeFrom ≤ i → i < keysFrom → Greatest (entry queue) (i - 3) (entry queue i)
 
 -- top is the greatest key, and 0 where none waits
 pub record Top (queue : List ℕ) (top : ℕ) : Type 0 where

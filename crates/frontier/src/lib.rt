@@ -8,14 +8,17 @@ ghost use Rattle.frontier.specs.Frontier.{entry, keyAt, Small, Raises, R
 ghost use Rattle.frontier.specs.Groups.{Run, Regrouped, Lifted};
 
 // A key tells its place by its remainder, so there are at most this many places.
-pub const PLACES: u64 = 4096;
+pub const PLACES: u64 = 2048;
 
-// Where the levels begin: eight entries stand at the top, 64 below them, then 512, then the keys.
+// Where the levels begin: four entries stand at the top, behind four that fill their group and stay
+// 0; 32 below them, then 256, then the keys.
+const THREES: usize = 4;
+
 const TWOS: usize = 8;
 
-const ONES: usize = 72;
+const ONES: usize = 40;
 
-pub const KEYS: usize = 584;
+pub const KEYS: usize = 296;
 
 // Sets the key of v to the larger of its key and this one, where top is the greatest key; the
 // greatest key then.
@@ -26,7 +29,7 @@ pub fn raise(queue: &mut [u64], top: u64, v: usize, key: u64) -> u64
     lift(queue, KEYS + v, key);
     lift(queue, ONES + v / 8, key);
     lift(queue, TWOS + v / 8 / 8, key);
-    lift(queue, v / 8 / 8 / 8, key);
+    lift(queue, THREES + v / 8 / 8 / 8, key);
     larger(top, key)
 }
 
@@ -38,7 +41,7 @@ pub fn remove(queue: &mut [u64], v: usize) -> u64
     let one = regroup(queue, KEYS + v, 0);
     let two = regroup(queue, ONES + v / 8, one);
     let three = regroup(queue, TWOS + v / 8 / 8, two);
-    regroup(queue, v / 8 / 8 / 8, three)
+    regroup(queue, THREES + v / 8 / 8 / 8, three)
 }
 
 // The larger of two. They are compared with a sign, which takes the machine fewer steps.

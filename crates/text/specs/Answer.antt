@@ -1,6 +1,6 @@
 -- The lines that a program writes.
 use mathlib.Core.List.{List, [], _∷_, _++_}
-use Prim.Native.Nat.{ℕ, suc, _-_}
+use Prim.Native.Nat.{ℕ, suc, _+_, _*_, _-_}
 use mathlib.Core.Bool.{cond}
 use lib.Dec.{eqb}
 use lib.IntN.{ℤ, pos, negsuc}
@@ -19,6 +19,15 @@ mostRoute = mostJunctions - 1
 -- at most twenty digits and a newline
 abbrev pub mostRefusal : ℕ
 mostRefusal = 50
+
+-- room for a route of n roads: five lines of nine letters, a space, twenty digits and a newline at most, n of five digits and a
+-- newline; for the charges of n junctions: a minus sign, ten digits and a newline each. A number is put only where twenty digits
+-- fit
+abbrev pub routeRoom : ℕ → ℕ
+routeRoom n = 5 * 31 + 6 * n + 20
+
+abbrev pub chargesRoom : ℕ → ℕ
+chargesRoom n = 12 * n + 20
 
 -- the words, byte by byte
 abbrev pub arrival : List ℕ

@@ -1,33 +1,16 @@
-// The lines that a program writes, into a lent buffer that always suffices. Each function answers
-// how many bytes at the buffer's start are the text. Writing it out is the programs' own.
+// The lines that a program writes, into a lent buffer that suffices. Each function answers how many
+// bytes at the buffer's start are the text. Writing it out is the programs' own.
 ghost use Prim.Native.Nat.{_+_, _*_, _≤_, _<_};
 ghost use mathlib.Core.Path.{_≡_};
 ghost use lib.ListN.{length, take};
-ghost use Rattle.network.specs.Files.{mostJunctions};
 ghost use Rattle.io.specs.Counts.{Counts};
 ghost use Rattle.text.specs.Decimal.{decimal};
-ghost use Rattle.text.specs.Answer.{mostRoute, mostRefusal, numberLine, wordLine, signedLine, numberLines, signedLines, routeText, refusedText, badQuery, noFile};
+ghost use Rattle.text.specs.Answer.{mostRefusal, routeRoom, chargesRoom, numberLine, wordLine, signedLine, numberLines, signedLines, routeText, refusedText, badQuery, noFile};
 ghost use Rattle.text.specs.Writing.{Puts};
 use planner::PlanNumbers;
 
 // The most roads of a route: it visits no junction twice.
 pub const MOST_ROUTE: usize = network::MOST_JUNCTIONS - 1;
-
-// The most bytes of a line: nine letters, a space, twenty digits and a newline; a road's number, of
-// five digits, and a newline; or a minus sign, the ten digits of a 32-bit number and a newline. A
-// number is put only where twenty digits fit.
-const WORD_LINE: usize = 31;
-
-const ROAD_LINE: usize = 6;
-
-const CHARGE_LINE: usize = 12;
-
-const SPARE: usize = 20;
-
-// Room for the longest route, and for the numbers of all junctions.
-pub const MOST_TEXT: usize = 5 * WORD_LINE + MOST_ROUTE * ROAD_LINE + SPARE;
-
-pub const MOST_CHARGES: usize = network::MOST_JUNCTIONS * CHARGE_LINE + SPARE;
 
 pub fn write_bad_query(out: &mut [u8]) -> usize
     requires { ⌜ mostRefusal ≤ length (now out) ⌝ }
@@ -57,8 +40,8 @@ pub fn write_refusal(out: &mut [u8], number: u64, place: u64) -> usize
 }
 
 // A route with its numbers: arrival, drawn, recovered, spilled, roads, then each road.
-pub fn write_route(out: &mut [u8; MOST_TEXT], given: PlanNumbers, route: &[u16]) -> usize
-    requires { ⌜ length (now route) ≤ mostRoute ⌝ }
+pub fn write_route(out: &mut [u8], given: PlanNumbers, route: &[u16]) -> usize
+    requires { ⌜ routeRoom (length (now route)) ≤ length (now out) ⌝ }
     ensures { λ r. ⌜ Counts r (now (out .exit)) ⌝ }
     ensures { λ r. ⌜ take r (now (out .exit)) ≡ routeText given (now (route .entry)) ⌝ }
 {
@@ -71,8 +54,8 @@ pub fn write_route(out: &mut [u8; MOST_TEXT], given: PlanNumbers, route: &[u16])
 }
 
 // The numbers of the junctions, one to a line.
-pub fn write_charges(out: &mut [u8; MOST_CHARGES], list: &[i32]) -> usize
-    requires { ⌜ length (now list) ≤ mostJunctions ⌝ }
+pub fn write_charges(out: &mut [u8], list: &[i32]) -> usize
+    requires { ⌜ chargesRoom (length (now list)) ≤ length (now out) ⌝ }
     ensures { λ r. ⌜ Counts r (now (out .exit)) ⌝ }
     ensures { λ r. ⌜ take r (now (out .exit)) ≡ signedLines (now (list .entry)) ⌝ }
 {
@@ -95,7 +78,7 @@ fn put_roads(out: &mut [u8], from: usize, route: &[u16]) -> usize
 
 // Each junction's number, one to a line, from the buffer's start.
 fn put_charges(out: &mut [u8], list: &[i32]) -> usize
-    requires { ⌜ 12 * length (now list) + 20 ≤ length (now out) ⌝ }
+    requires { ⌜ chargesRoom (length (now list)) ≤ length (now out) ⌝ }
     ensures { λ r. ⌜ Puts (now (out .entry)) 0 (signedLines (now (list .entry))) (now (out .exit)) r ⌝ }
 {
     let mut at = 0;

@@ -54,6 +54,7 @@ raise-spec =
     lift-requires-2
     (λ c. search needs)
     lift-requires-3
+    (λ c. search needs)
     lift-requires-4
     larger-requires
     (λ c. search needs)

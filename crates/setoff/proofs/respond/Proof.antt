@@ -16,10 +16,12 @@ use Rattle.setoff.proofs.respond.Tie as tie
 -- no line of a depot
 returns : tie.Need-returns
 returns c =
-    let written = c .write-bad-query .ensures in
-    let read = c .before .before .before .before in
+    let wrote = c .before .before in
+    let told = wrote .before .before in
+    let read = told .before .before in
     let line = read .before .before .before .before .args .line .now in
-    (written .0, rw (written .1) (Responds.bad (no-query (subst (ReadsDepot line) (c .before .before .enum-told .given .1) (read .read-depot .ensures)))))
+    let written = wrote .write-bad-query .ensures in
+    (written .0, rw (written .1) (Responds.bad (no-query (subst (ReadsDepot line) (told .enum-told .given .1) (read .read-depot .ensures)))))
 
 -- the question that the line asks
 asks : (c : tie.After-known-told) → ReadsDepot (c .before .before .before .before .before .before .before .args .line .now) (asked.Depot (c .before .asked .given .0 .0))
@@ -28,15 +30,17 @@ asks c = subst (ReadsDepot (c .before .before .before .before .before .before .b
 -- a refusal
 returns-2 : tie.Need-returns-2
 returns-2 c =
-    let written = c .write-refusal .ensures in
-    let given = c .before .before .before .before in
+    let wrote = c .before .before in
+    let told = wrote .before .before in
+    let given = told .before .before in
     let filled = given .before .before in
-    let told = c .before .before .enum-told3 .given .1 in
-    (written .0, rw (written .1) (refusal-written _ (asks (filled .before .before)) refl (filled .set-off .ensures) (given .check-numbers .ensures) told))
+    let written = wrote .write-refusal .ensures in
+    let asked = asks (filled .before .before .before) in
+    (written .0, rw (written .1) (refusal-written _ asked refl (filled .set-off .ensures) (given .check-numbers .ensures) (told .enum-told3 .given .1)))
 
 -- the list has an entry for each junction
 count-le : (c : tie.After-write-charges-arg)
-    → junctions (c .before .before .before .before .before .before .before .before .before .before .before .before .before .before .args .nodes .now) ≤ length (c .before .before .before .before .before .set-off .last .1 .1 .1 .0)
+    → junctions (c .before .before .before .before .before .before .before .before .before .before .before .before .before .before .before .args .nodes .now) ≤ length (c .before .before .before .before .before .set-off .last .1 .1 .1 .0)
 count-le c =
     let filled = c .before .before .before .before .before .set-off in
     omega (arith, numbers-fit (filled .ensures) (c .before .enum-told2 .given .1), filled .kept .1 .1 .1 .0)
@@ -44,15 +48,17 @@ count-le c =
 write-charges-requires : tie.Need-write-charges-requires
 write-charges-requires c κs =
     let filled = c .before .before .before .before .before .before .set-off in
-    let l = length-take-le (junctions (c .before .before .before .before .before .before .before .before .before .before .before .before .before .before .before .args .nodes .now)) (filled .last .1 .1 .1 .0) (count-le (c .before)) in
-    omega (arith, count-le (c .before), filled .kept .1 .1 .1 .0)
+    let start = c .before .before .before .before .before .before .before .before .before .before .before .before .before .before .before .before in
+    let l = length-take-le (junctions (start .args .nodes .now)) (filled .last .1 .1 .1 .0) (count-le (c .before)) in
+    omega (arith, count-le (c .before), filled .kept .1 .1 .1 .0, start .pre .1)
 
 returns-3 : tie.Need-returns-3
 returns-3 c =
-    let written = c .write-charges .ensures in
-    let filled = c .before .before .before .before .before .before .before in
-    let told = c .before .before .before .enum-told2 .given .1 in
-    (written .0, rw (written .1) (numbers-written _ (asks (filled .before .before)) refl (filled .set-off .ensures) told))
+    let wrote = c .before .before in
+    let told = wrote .before .before .before in
+    let filled = told .before .before .before .before in
+    let written = wrote .write-charges .ensures in
+    (written .0, rw (written .1) (numbers-written _ (asks (filled .before .before .before)) refl (filled .set-off .ensures) (told .enum-told2 .given .1)))
 
 pub respond-spec : {M : Type 1} → statement M
 respond-spec =
@@ -62,15 +68,20 @@ respond-spec =
     (λ c. search needs)
     (λ c. search needs)
     (λ c κs. search needs)
+    (λ c. search needs)
     returns
     (λ c. search needs)
+    (λ c. search needs)
+    (λ c. search needs)
     (λ c κs. search needs)
     (λ c κs. search needs)
     (λ c. search needs)
     (λ c. search needs)
     (λ c κs. search needs)
+    (λ c. search needs)
     returns-2
     (λ c. count-le c)
     (λ c. sym (length-take-le _ _ (count-le (c .before))))
     write-charges-requires
+    (λ c. search needs)
     returns-3)

@@ -9,17 +9,21 @@ use Rattle.setoff.proofs.without_files.Tie as tie
 
 returns : tie.Need-returns
 returns c =
-    let written = c .write-no-file .ensures in
-    let read = c .before .before .before .before in
-    let line = read .before .before .args .line .now in
-    (written .0, rw (written .1) (no-file (subst (ReadsDepot line) (c .before .before .enum-told .given .1) (read .read-depot .ensures))))
+    let wrote = c .before .before in
+    let told = wrote .before .before in
+    let read = told .before .before in
+    let line = read .before .before .before .args .line .now in
+    let written = wrote .write-no-file .ensures in
+    (written .0, rw (written .1) (no-file (subst (ReadsDepot line) (told .enum-told .given .1) (read .read-depot .ensures))))
 
 returns-2 : tie.Need-returns-2
 returns-2 c =
-    let written = c .write-bad-query .ensures in
-    let read = c .before .before .before .before in
-    let line = read .before .before .args .line .now in
-    let asked = subst (ReadsDepot line) (c .before .before .enum-told2 .given .1) (read .read-depot .ensures) in
+    let wrote = c .before .before in
+    let told = wrote .before .before in
+    let read = told .before .before in
+    let line = read .before .before .before .args .line .now in
+    let written = wrote .write-bad-query .ensures in
+    let asked = subst (ReadsDepot line) (told .enum-told2 .given .1) (read .read-depot .ensures) in
     (written .0, rw (written .1) (WithoutFiles.bad (no-query asked)))
 
 pub without-files-spec : {M : Type 1} → statement M
@@ -31,5 +35,7 @@ without-files-spec =
     (λ c κs. search needs)
     (λ c. search needs)
     (λ c κs. search needs)
+    (λ c. search needs)
     returns
+    (λ c. search needs)
     returns-2)

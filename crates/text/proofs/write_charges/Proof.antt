@@ -9,4 +9,5 @@ write-charges-spec =
     tie.close
     (tie.spec
     (λ c κs. search needs)
-    (λ c. (puts-counts (c .put-charges .ensures), c .put-charges .ensures .text)))
+    (λ c. search needs)
+    (λ c. let written = c .before .before .put-charges .ensures in (puts-counts written, written .text)))

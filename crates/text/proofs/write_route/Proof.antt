@@ -8,12 +8,17 @@ use Rattle.text.proofs.write_route.Tie as tie
 returns : tie.Need-returns
 unfolding routeText
 returns c =
-    let arrival = c .before .before .before .before .before .before .before .before .before .before .before .before .before .before .put-word-line .ensures .0 in
-    let drawn = c .before .before .before .before .before .before .before .before .before .before .before .put-word-line2 .ensures .0 in
-    let recovered = c .before .before .before .before .before .before .before .before .put-word-line3 .ensures .0 in
-    let spilled = c .before .before .before .before .before .put-word-line4 .ensures .0 in
-    let roads = c .before .before .put-word-line5 .ensures .0 in
-    let all = puts-then arrival (puts-then drawn (puts-then recovered (puts-then spilled (puts-then roads (c .put-roads .ensures))))) in
+    let last = c .before .before in
+    let roads = last .before .before .before .before in
+    let spilled = roads .before .before .before .before .before in
+    let recovered = spilled .before .before .before .before .before in
+    let drawn = recovered .before .before .before .before .before in
+    let arrival = drawn .before .before .before .before .before in
+    let all =
+    puts-then (arrival .put-word-line .ensures .0)
+    (puts-then (drawn .put-word-line2 .ensures .0)
+    (puts-then (recovered .put-word-line3 .ensures .0)
+    (puts-then (spilled .put-word-line4 .ensures .0) (puts-then (roads .put-word-line5 .ensures .0) (last .put-roads .ensures))))) in
     (puts-counts all, all .text)
 
 pub write-route-spec : {M : Type 1} → statement M
@@ -31,4 +36,5 @@ write-route-spec =
     (λ c. search needs)
     (λ c κs. search needs)
     (λ c κs. search needs)
+    (λ c. search needs)
     returns)

@@ -6,6 +6,7 @@ mod networks;
 mod plain;
 mod programs;
 mod queries;
+#[cfg(target_arch = "x86_64")]
 mod stack;
 mod tight;
 mod times;
@@ -13,7 +14,8 @@ mod tuned;
 
 use networks::{cases, named, Case};
 
-const USAGE: &str = "one of: names; queries; count NETWORK IMPLEMENTATION TIMES; stack; programs PLAN READS";
+const USAGE: &str =
+    "one of: names; queries; count NETWORK IMPLEMENTATION TIMES; stack LIBRARY PLAN SETOFF; programs PLAN READS";
 
 fn main() -> Result<(), String> {
     let words: Vec<String> = std::env::args().skip(1).collect();
@@ -30,7 +32,8 @@ fn main() -> Result<(), String> {
             let times = times.parse().map_err(|_| format!("not a number: {times}"))?;
             queries::count(&found(name)?, implementation, times)?
         }
-        ["stack"] => stack::print(&found("hill")?.drawings[0], &found("hill-16")?.drawings[0]),
+        #[cfg(target_arch = "x86_64")]
+        ["stack", library, plan, setoff] => stack::print(&cases(), library, plan, setoff)?,
         ["programs", plan, reads] => programs::compare(&found("hill")?.drawings[0], plan, reads)?,
         _ => return Err(USAGE.to_string()),
     }

@@ -5,21 +5,20 @@ use crate::times::Times;
 use std::fs;
 use std::io::Write;
 use std::path::{Path, PathBuf};
-use std::process::{Command, Stdio};
+use std::process::{Command, Output, Stdio};
 use std::time::Instant;
 
 /// How often each program is run.
 const RUNS: usize = 101;
 
 /// A folder that is removed in the end.
-struct Folder(PathBuf);
+pub struct Folder(pub PathBuf);
 
 /// Times both programs in turn in a folder with the files of the question, and prints a table.
 pub fn compare(question: &Question, plan: &str, reads: &str) -> Result<(), String> {
     let folder = Folder::with(question)?;
     let line = format!("{} {} {} {}\n", question.battery, question.start, question.source, question.target);
-    let found = |program: &str| fs::canonicalize(program).map_err(|e| format!("{program}: {e}"));
-    let programs = [found(plan)?, found(reads)?];
+    let programs = [plan, reads].map(Path::new);
     let answer = sedge::best_route(
         question.files(),
         question.battery,
@@ -28,15 +27,15 @@ pub fn compare(question: &Question, plan: &str, reads: &str) -> Result<(), Strin
         question.target,
         &mut question.list(),
     );
-    let written = run(&programs[0], &folder.0, &line)?;
-    if !written.starts_with(&format!("arrival {}\n", answer.arrival)) {
-        return Err(format!("plan differs: {written}"));
+    let written = run(programs[0], &folder.0, &line, &[])?.stdout;
+    if !written.starts_with(format!("arrival {}\n", answer.arrival).as_bytes()) {
+        return Err(format!("plan differs: {}", String::from_utf8_lossy(&written)));
     }
     let mut taken = [(); 2].map(|_| Vec::new());
     for _ in 0..RUNS {
         for (program, taken) in programs.iter().zip(&mut taken) {
             let begun = Instant::now();
-            run(program, &folder.0, &line)?;
+            run(program, &folder.0, &line, &[])?;
             taken.push(begun.elapsed());
         }
     }
@@ -49,25 +48,27 @@ pub fn compare(question: &Question, plan: &str, reads: &str) -> Result<(), Strin
     Ok(())
 }
 
-/// Runs the program in the folder with this line on its standard input; what it wrote.
-fn run(program: &Path, folder: &Path, line: &str) -> Result<String, String> {
+/// Runs the program in the folder with this line on its standard input and these variables in its environment; what it
+/// wrote. The program's path is an absolute one.
+pub fn run(program: &Path, folder: &Path, line: &str, variables: &[(&str, &str)]) -> Result<Output, String> {
     let failed = |e: std::io::Error| format!("{}: {e}", program.display());
     let mut child = Command::new(program)
         .current_dir(folder)
+        .envs(variables.iter().copied())
         .stdin(Stdio::piped())
         .stdout(Stdio::piped())
+        .stderr(Stdio::piped())
         .spawn()
         .map_err(failed)?;
     if let Some(mut stdin) = child.stdin.take() {
         stdin.write_all(line.as_bytes()).map_err(failed)?;
     }
-    let output = child.wait_with_output().map_err(failed)?;
-    Ok(String::from_utf8_lossy(&output.stdout).into_owned())
+    child.wait_with_output().map_err(failed)
 }
 
 impl Folder {
     /// A new folder with the two files.
-    fn with(question: &Question) -> Result<Folder, String> {
+    pub fn with(question: &Question) -> Result<Folder, String> {
         let folder = Folder(std::env::temp_dir().join(format!("sedge-bench-{}", std::process::id())));
         let files = question.files();
         fs::create_dir_all(&folder.0)

@@ -1,38 +1,92 @@
-//! The stack that each entry uses, found by painting: the entry is called on a stack of our own, filled with one byte
-//! throughout, and the lowest byte that changed tells how deep it went.
+//! The stack that each entry and each program uses, found by painting: it is called on a stack of our own, filled with
+//! one byte throughout, and the lowest byte that changed tells how deep it went.
 
-use crate::networks::Question;
+use crate::networks::{Case, Question};
+use crate::programs::{run, Folder};
+use std::path::Path;
 
-/// Prints the bytes of stack for each of the five entries, and for a best route where there is none.
-#[cfg(target_arch = "x86_64")]
-pub fn print(question: &Question, without_route: &Question) {
-    let plan = |question: &Question, list: &mut [u16]| {
-        let Question { battery, start, source, target, .. } = *question;
-        sedge::best_route(question.files(), battery, start, source, target, list)
-    };
-    let Question { battery, start, source, depot, .. } = *question;
-    let (files, mut list, mut charges) = (question.files(), question.list(), question.charges());
-    let roads = plan(question, &mut list).roads as usize;
-    let route = list[..roads].to_vec();
-    println!("Stack below the caller's frame in bytes, by a painted stack; an empty call for comparison.");
+/// The marks in bytes: for an entry that searches, for one that does not, for a program.
+const MARKS: [usize; 3] = [64_000, 2_000, 160_000];
+
+/// Prints the most bytes of stack that each entry uses over one drawing of each case, for a best route with and without
+/// a route; then what the mains of the two programs use. The library is the one of `painted.c`.
+pub fn print(cases: &[Case], library: &str, plan: &str, setoff: &str) -> Result<(), String> {
+    let [searches, walks, program] = MARKS;
+    let questions: Vec<&Question> = cases.iter().map(|case| &case.drawings[0]).collect();
+    let (with, without): (Vec<_>, Vec<_>) = questions.iter().partition(|question| question.number == 0);
+    println!("Stack below the caller's frame in bytes, by a painted stack: the most over the networks.");
     println!();
-    let line = |entry: &str, bytes: usize| println!("{entry:18} {bytes:>7}");
-    line("an empty call", painted::used(|| ()));
-    line("sedge_check", painted::used(|| sedge::check(files)));
-    line("sedge_best_route", painted::used(|| plan(question, &mut list)));
-    line("without a route", painted::used(|| plan(without_route, &mut list)));
-    line("sedge_drive", painted::used(|| sedge::drive(files, battery, start, source, &route)));
-    line("sedge_profile", painted::used(|| sedge::profile(files, battery, source, &route)));
-    line("sedge_set_off", painted::used(|| sedge::set_off(files, battery, depot, &mut charges)));
+    println!("{:26} {:>7} {:>7}", "", "bytes", "mark");
+    let line = |what: &str, bytes: usize, mark: usize| println!("{what:26} {bytes:>7} {mark:>7}");
+    line("sedge_check", most(&questions, check), walks);
+    line("sedge_best_route, a route", most(&with, best_route), searches);
+    line("sedge_best_route, none", most(&without, best_route), searches);
+    line("sedge_drive", most(&with, drive), walks);
+    line("sedge_profile", most(&with, profile), walks);
+    line("sedge_set_off", most(&questions, set_off), searches);
+    let Question { battery, start, source, target, depot, .. } = *with[0];
+    let folder = Folder::with(with[0])?;
+    let used = |program: &str, line: String| main_of(program, &folder.0, &line, library);
+    line("plan", used(plan, format!("{battery} {start} {source} {target}\n"))?, program);
+    line("setoff", used(setoff, format!("{battery} {depot}\n"))?, program);
+    println!("{:26} {:>7}", "an empty call", painted::used(|| ()));
+    Ok(())
 }
 
-/// Says that the stack is not measured here.
-#[cfg(not(target_arch = "x86_64"))]
-pub fn print(_: &Question, _: &Question) {
-    println!("Stack: measured on x86_64 only.");
+/// What the program's main uses, in this folder with this line on its standard input.
+fn main_of(program: &str, folder: &Path, line: &str, library: &str) -> Result<usize, String> {
+    let mut deepest = 0;
+    for paint in painted::PAINTS {
+        let variables = [("LD_PRELOAD", library), ("PAINT", &paint.to_string())];
+        let told = run(Path::new(program), folder, line, &variables)?.stderr;
+        let told = String::from_utf8_lossy(&told);
+        let bytes = told.trim().parse().map_err(|_| format!("{program}: no number of bytes: {told}"))?;
+        deepest = usize::max(deepest, bytes);
+    }
+    Ok(deepest)
 }
 
-#[cfg(target_arch = "x86_64")]
+fn most(questions: &[&Question], used: fn(&Question) -> usize) -> usize {
+    questions.iter().map(|question| used(question)).fold(0, usize::max)
+}
+
+fn check(question: &Question) -> usize {
+    painted::used(|| sedge::check(question.files()))
+}
+
+fn best_route(question: &Question) -> usize {
+    let Question { battery, start, source, target, .. } = *question;
+    let mut list = question.list();
+    painted::used(|| sedge::best_route(question.files(), battery, start, source, target, &mut list))
+}
+
+fn drive(question: &Question) -> usize {
+    let Question { battery, start, source, .. } = *question;
+    let route = route(question);
+    painted::used(|| sedge::drive(question.files(), battery, start, source, &route))
+}
+
+fn profile(question: &Question) -> usize {
+    let Question { battery, source, .. } = *question;
+    let route = route(question);
+    painted::used(|| sedge::profile(question.files(), battery, source, &route))
+}
+
+fn set_off(question: &Question) -> usize {
+    let Question { battery, depot, .. } = *question;
+    let mut charges = question.charges();
+    painted::used(|| sedge::set_off(question.files(), battery, depot, &mut charges))
+}
+
+/// The best route of the question.
+fn route(question: &Question) -> Vec<u16> {
+    let Question { battery, start, source, target, .. } = *question;
+    let mut list = question.list();
+    let answer = sedge::best_route(question.files(), battery, start, source, target, &mut list);
+    list.truncate(answer.roads as usize);
+    list
+}
+
 mod painted {
     use std::arch::asm;
     use std::ffi::c_void;
@@ -40,7 +94,7 @@ mod painted {
 
     /// The size of the stack that is painted, and the two paints: a byte that one of them hides the other shows.
     const BYTES: usize = 1 << 20;
-    const PAINTS: [u8; 2] = [0xa5, 0x5a];
+    pub const PAINTS: [u8; 2] = [0xa5, 0x5a];
 
     /// How many bytes of stack the work uses.
     pub fn used<T, F: FnMut() -> T>(mut work: F) -> usize {
