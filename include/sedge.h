@@ -11,7 +11,7 @@
  * Asked of the caller: each pointer is to as many elements as the length beside it says, and is not
  * null even where that length is 0; no list that is written overlaps anything else that is lent.
  * Any bytes and any numbers are taken. Nothing is kept, allocated or printed, so that threads may
- * call at the same time. Below the caller's frame sedge_best_route and sedge_set_off use some 54 KB
+ * call at the same time. Below the caller's frame sedge_best_route and sedge_set_off use some 52 KB
  * of stack.
  */
 #ifndef SEDGE_H

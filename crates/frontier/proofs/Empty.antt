@@ -6,7 +6,7 @@ use Prim.Native.Nat.{ℕ, zero, suc, _+_, _*_, _-_, _%_, _≤_, _<_}
 use native.Mathlib.Decide.{decLt}
 use native.Mathlib.Omega.{arith}
 use lib.ListN.{length, replicate}
-use Rattle.frontier.specs.Frontier.{treeFrom, keysFrom, entry, AllZero, Frontier, Top}
+use Rattle.frontier.specs.Frontier.{treeFrom, onesFrom, keysFrom, groupOf, entry, AllZero, Frontier, Top}
 
 pub zeros : (n i : ℕ) → entry (replicate n 0) i ≡ 0
 zeros zero i = refl
@@ -20,7 +20,7 @@ empty queue z l w = record {
   small = record { below = λ i. omega (arith, z i) };
   tells = λ v h. absurd (omega (arith, z (keysFrom + v)));
   unused = λ i _. z i;
-  level = λ i _ _. rw (z i) (record { most = λ j _. omega (arith, z j); is = ((i - 3) * 8, omega arith, z ((i - 3) * 8)) });
+  level = λ i _ _. rw (z i) (record { most = λ j _. omega (arith, z j); is = (groupOf i * 8, omega arith, z (groupOf i * 8)) });
 }
 
 pub empty-top : (queue : List ℕ) → AllZero queue → Top queue 0
@@ -31,7 +31,7 @@ module _ {queue : List ℕ} (f : Frontier queue) (t : Top queue 0) where
   from-keys : (i : ℕ) → keysFrom ≤ i → entry queue i ≡ 0
   from-keys i h = let e : keysFrom + (i - keysFrom) ≡ i = omega arith in omega (arith, ap (entry queue) e, t .most (i - keysFrom))
 
-  level-up : (a b : ℕ) → treeFrom ≤ a → b ≤ (a - 3) * 8 → b ≤ keysFrom → ((i : ℕ) → b ≤ i → entry queue i ≡ 0) → (i : ℕ) → a ≤ i → entry queue i ≡ 0
+  level-up : (a b : ℕ) → treeFrom ≤ a → b ≤ groupOf a * 8 → b ≤ keysFrom → ((i : ℕ) → b ≤ i → entry queue i ≡ 0) → (i : ℕ) → a ≤ i → entry queue i ≡ 0
   level-up a b t h k z i l = go (decLt i b)
     where
       go : Dec (i < b) → entry queue i ≡ 0
@@ -40,8 +40,8 @@ module _ {queue : List ℕ} (f : Frontier queue) (t : Top queue 0) where
 
   in-tree : (i : ℕ) → treeFrom ≤ i → entry queue i ≡ 0
   in-tree =
-      level-up 4 8 (omega arith) (omega arith) (omega arith)
-      (level-up 8 40 (omega arith) (omega arith) (omega arith) (level-up 40 296 (omega arith) (omega arith) (omega arith) from-keys))
+      level-up treeFrom 8 (omega arith) (omega arith) (omega arith)
+      (level-up 8 onesFrom (omega arith) (omega arith) (omega arith) (level-up onesFrom keysFrom (omega arith) (omega arith) (omega arith) from-keys))
 
   pub emptied : AllZero queue
   emptied i = go (decLt i treeFrom)

@@ -1,15 +1,15 @@
--- Functions whose value at i is the greatest of the group of eight i - 3, where they change at one place. Assumes nothing.
+-- Functions whose value at i is the greatest of their group of eight, where they change at one place. Assumes nothing.
 use mathlib.Core.Path.{_≡_, refl, sym, ap, _∙_}
 use mathlib.Core.Logic.{_≢_}
-use Prim.Native.Nat.{ℕ, _+_, _*_, _-_, _/_, _≤_, _<_, max}
+use Prim.Native.Nat.{ℕ, _+_, _*_, _/_, _≤_, _<_, max}
 use native.Mathlib.Decide.{ℕ-discrete, decLt}
 use native.Mathlib.Omega.{arith}
-use Rattle.frontier.specs.Frontier.{treeFrom, keysFrom, Greatest, Put}
+use Rattle.frontier.specs.Frontier.{treeFrom, onesFrom, keysFrom, groupOf, Greatest, Put}
 use Rattle.frontier.specs.Groups.{Run}
 
 -- where the entries above the key of v stand
 abbrev pub above₁ : ℕ → ℕ
-above₁ v = 40 + v / 8
+above₁ v = onesFrom + v / 8
 
 abbrev pub above₂ : ℕ → ℕ
 above₂ v = 8 + v / 8 / 8
@@ -85,12 +85,12 @@ greatest-raise {f} {f'} {a} {m} k l p = record {
 -- ---- all groups, but for the one whose greatest is still to be put
 
 abbrev pub Levels : (ℕ → ℕ) → Type 0
-Levels f = (i : ℕ) → treeFrom ≤ i → i < keysFrom → Greatest f (i - 3) (f i)
+Levels f = (i : ℕ) → treeFrom ≤ i → i < keysFrom → Greatest f (groupOf i) (f i)
 
 -- x is due at a: once it stands there, only the group of a may be wrong
 pub record Due (f : ℕ → ℕ) (a x : ℕ) : Type 0 where
-  pub rest : (i : ℕ) → treeFrom ≤ i → i < keysFrom → i ≢ a → Greatest f (i - 3) (f i)
-  pub own : a < keysFrom → Greatest f (a - 3) x
+  pub rest : (i : ℕ) → treeFrom ≤ i → i < keysFrom → i ≢ a → Greatest f (groupOf i) (f i)
+  pub own : a < keysFrom → Greatest f (groupOf a) x
 
 -- a key stands below all levels, so any may be put
 pub due-key : {f : ℕ → ℕ} {a x : ℕ} → Levels f → keysFrom ≤ a → Due f a x
@@ -98,26 +98,26 @@ due-key l h = record { rest = λ i t b _. l i t b; own = λ b. absurd (omega ari
 
 -- x is put, and the groups other than its own are right
 due-others : {f f' : ℕ → ℕ} {a x : ℕ} → Due f a x → Put f f' a x
-    → (i : ℕ) → treeFrom ≤ i → i < keysFrom → i - 3 ≢ a / 8 → Greatest f' (i - 3) (f' i)
+    → (i : ℕ) → treeFrom ≤ i → i < keysFrom → groupOf i ≢ a / 8 → Greatest f' (groupOf i) (f' i)
 due-others {f} {f'} {a} {x} d p i t b ne = go (ℕ-discrete i a)
   where
-    go : Dec (i ≡ a) → Greatest f' (i - 3) (f' i)
+    go : Dec (i ≡ a) → Greatest f' (groupOf i) (f' i)
     go (yes e) = rw e (greatest-other (d .own (omega arith)) p (omega arith) (sym (p .here)))
     go (no e) = greatest-other (d .rest i t b e) p ne (sym (p .rest i e))
 
 -- x is put, and the greatest of its group is due at b
-pub due-next : {f f' : ℕ → ℕ} {a b x r : ℕ} → Due f a x → Put f f' a x → Greatest f' (a / 8) r → a / 8 + 3 ≡ b → Due f' b r
+pub due-next : {f f' : ℕ → ℕ} {a b x r : ℕ} → Due f a x → Put f f' a x → Greatest f' (a / 8) r → a / 8 + treeFrom ≡ b + 1 → Due f' b r
 due-next {a} {b} d p g e = record {
   rest = λ i t h ne. due-others d p i t h (λ s. ne (omega arith));
-  own = λ _. let s : a / 8 ≡ b - 3 = omega arith in rw s at g;
+  own = λ _. let s : a / 8 ≡ groupOf b = omega arith in rw s at g;
 }
 
 -- the same where each place gets the larger of its value and k
 pub due-raise : {f f' : ℕ → ℕ} {a b : ℕ} (k : ℕ) → Due f a (max (f a) k) → Put f f' a (max (f a) k)
-    → a / 8 + 3 ≡ b → treeFrom ≤ b → b < keysFrom → Due f' b (max (f' b) k)
+    → a / 8 + treeFrom ≡ b + 1 → treeFrom ≤ b → b < keysFrom → Due f' b (max (f' b) k)
 due-raise {f} {f'} {a} {b} k d p e t h =
     let ne : b ≢ a = λ s. omega arith in
-    let s : a / 8 ≡ b - 3 = omega arith in
+    let s : a / 8 ≡ groupOf b = omega arith in
     let g : Greatest f (a / 8) (f b) = rw s (d .rest b t h ne) in
     rw (p .rest b ne) (due-next d p (greatest-raise k g p) e)
 

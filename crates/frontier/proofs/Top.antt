@@ -5,7 +5,7 @@ use mathlib.Core.List.{List}
 use Prim.Native.Nat.{ℕ, _+_, _*_, _-_, _%_, _^_, _≤_, _<_, max}
 use native.Mathlib.Decide.{ℕ-discrete, decLt}
 use native.Mathlib.Omega.{arith}
-use Rattle.frontier.specs.Frontier.{places, treeFrom, keysFrom, entry, keyAt, Greatest, Put, Frontier, Top}
+use Rattle.frontier.specs.Frontier.{places, treeFrom, onesFrom, keysFrom, groupOf, entry, keyAt, Greatest, Put, Frontier, Top}
 use Rattle.frontier.proofs.Level.{above₁, above₂, above₃}
 
 -- the greatest of the top level is the greatest key
@@ -29,7 +29,7 @@ top-of {queue} {r} f t = record {
 
     -- a key that is r, one level down at a time
     below : (a b : ℕ) → treeFrom ≤ a → b ≤ keysFrom → (i : ℕ) × (a ≤ i) × (i < b) × (entry queue i ≡ r)
-        → (j : ℕ) × ((a - 3) * 8 ≤ j) × (j < (b - 3) * 8) × (entry queue j ≡ r)
+        → (j : ℕ) × (groupOf a * 8 ≤ j) × (j < groupOf b * 8) × (entry queue j ≡ r)
     below a b l' h (i, l, u, e) = let (j, g, e') = f .level i (omega arith) (omega arith) .is in (j, omega arith, omega arith, e' ∙ e)
 
     -- where r is not 0, it stands at the top
@@ -40,11 +40,11 @@ top-of {queue} {r} f t = record {
         go (yes u) = absurd (z (sym (t .is .2) ∙ f .unused (t .is .0) u))
         go (no u) = omega arith
 
-    key : r ≢ 0 → (j : ℕ) × (keysFrom ≤ j) × (j < 2344) × (entry queue j ≡ r)
+    key : r ≢ 0 → (j : ℕ) × (keysFrom ≤ j) × (j < groupOf keysFrom * 8) × (entry queue j ≡ r)
     key z =
-        below 40 296 (omega arith) (omega arith)
-        (below 8 40 (omega arith) (omega arith)
-        (below 4 8 (omega arith) (omega arith) (t .is .0, at-top z, omega (arith, t .is .1), t .is .2)))
+        below onesFrom keysFrom (omega arith) (omega arith)
+        (below 8 onesFrom (omega arith) (omega arith)
+        (below treeFrom 8 (omega arith) (omega arith) (t .is .0, at-top z, omega (arith, t .is .1), t .is .2)))
 
     of-key : r ≢ 0 → (v : ℕ) → keyAt queue v ≡ r → keyAt queue (r % places) ≡ r
     of-key z v e = let told : r % places ≡ v = rw e at (f .tells v (omega arith)) in ap (keyAt queue) told ∙ e

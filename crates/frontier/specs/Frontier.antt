@@ -1,23 +1,32 @@
--- The queue of a search, as a tree in one list: entry i is the greatest of the group of eight i - 3, for three levels, and then
--- come the keys. The first four entries fill the top's group and are 0. It may have any whole number of groups; past the end every
--- entry is 0. No entry's promise cites this file.
+-- The queue of a search, as a tree in one list: for three levels each entry is the greatest of a group of eight, and then come the
+-- keys. It may have any whole number of groups; past the end every entry is 0. No entry's promise cites this file.
 use mathlib.Core.Path.{_≡_}
 use mathlib.Core.List.{List}
 use mathlib.Core.Logic.{_⊎_, _≢_}
-use Prim.Native.Nat.{ℕ, _+_, _-_, _/_, _%_, _^_, _≤_, _<_}
+use Prim.Native.Nat.{ℕ, _+_, _*_, _-_, _/_, _%_, _^_, _≤_, _<_}
 use lib.ListN.{length, getD}
+
+-- how many entries stand at the top, at the end of the first group: one for 512 places
+abbrev pub tops : ℕ
+tops = 4
 
 -- how many places a key can tell
 abbrev pub places : ℕ
-places = 2048
+places = 512 * tops
 
--- where the tree begins
+-- where the tree begins, its last level, and the keys
 abbrev pub treeFrom : ℕ
-treeFrom = 4
+treeFrom = 8 - tops
 
--- where the keys begin: after 4, 32 and 256 entries of the tree
+abbrev pub onesFrom : ℕ
+onesFrom = 8 + 8 * tops
+
 abbrev pub keysFrom : ℕ
-keysFrom = 296
+keysFrom = onesFrom + 64 * tops
+
+-- the group of eight below entry i: entry 8, the first after the top, begins the group after those of the top
+abbrev pub groupOf : ℕ → ℕ
+groupOf i = i + 1 - treeFrom
 
 abbrev pub entry : List ℕ → ℕ → ℕ
 entry queue i = getD queue i 0
@@ -51,7 +60,7 @@ pub record Frontier (queue : List ℕ) : Type 0 where
   pub small : Small queue
   pub tells : (v : ℕ) → 0 < keyAt queue v → keyAt queue v % places ≡ v
   pub unused : (i : ℕ) → i < treeFrom → entry queue i ≡ 0
-  pub level : (i : ℕ) → treeFrom ≤ i → i < keysFrom → Greatest (entry queue) (i - 3) (entry queue i)
+  pub level : (i : ℕ) → treeFrom ≤ i → i < keysFrom → Greatest (entry queue) (groupOf i) (entry queue i)
 
 -- top is the greatest key, and 0 where none waits
 pub record Top (queue : List ℕ) (top : ℕ) : Type 0 where

@@ -7,18 +7,21 @@ ghost use lib.ListN.{length};
 ghost use Rattle.frontier.specs.Frontier.{entry, keyAt, Small, Raises, Removes, Now};
 ghost use Rattle.frontier.specs.Groups.{Run, Regrouped, Lifted};
 
-// A key tells its place by its remainder, so there are at most this many places.
-pub const PLACES: u64 = 2048;
+// How many entries stand at the top, one for 512 places.
+const TOPS: usize = 4;
 
-// Where the levels begin: four entries stand at the top, behind four that fill their group and stay
-// 0; 32 below them, then 256, then the keys.
-const THREES: usize = 4;
+// A key tells its place by its remainder, so there are at most this many places.
+pub const PLACES: u64 = 512 * (TOPS as u64);
+
+// Where the levels begin. The top stands at the end of the first group, and what is before it stays
+// 0; then come eight entries for each at the top, then 64, then the keys.
+const THREES: usize = 8 - TOPS;
 
 const TWOS: usize = 8;
 
-const ONES: usize = 40;
+const ONES: usize = TWOS + 8 * TOPS;
 
-pub const KEYS: usize = 296;
+pub const KEYS: usize = ONES + 64 * TOPS;
 
 // Sets the key of v to the larger of its key and this one, where top is the greatest key; the
 // greatest key then.

@@ -34,9 +34,9 @@ fn main() {
     }
 }
 
-// What is written once both files are read. The first `size` bytes of `roads` are the file; it is
-// not read again once there is an answer, and what is written takes its place: so many bytes at the
-// start.
+// What is written once both files are read: how many bytes at the start of `roads`. The file of the
+// roads is its first `size` bytes; once there is an answer it is not read again, and the answer is
+// written over it.
 fn respond(line: &[u8], nodes: &[u8], roads: &mut [u8], size: usize) -> usize
     requires { ⌜ Counts size (now roads) ⌝ }
     requires { ⌜ chargesRoom mostJunctions ≤ length (now roads) ⌝ }

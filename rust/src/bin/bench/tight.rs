@@ -7,9 +7,9 @@ use sedge::{Files, Planned};
 use std::hint::select_unpredictable;
 
 /// A key tells its junction by its remainder.
-const PLACES: u64 = 4096;
+const PLACES: u64 = 2048;
 
-/// The working space, some 54 KB. Aligned, since it is cleared faster so.
+/// The working space, some 52 KB. Aligned, since it is cleared faster so.
 #[repr(align(64))]
 struct Space {
     /// For each junction the last road from it, plus one, and 0 for none.
@@ -26,8 +26,8 @@ struct Space {
 /// group of eight below. The caller carries the greatest of all.
 struct Frontier {
     keys: [u64; MOST_JUNCTIONS],
-    ones: [u64; 512],
-    twos: [u64; 64],
+    ones: [u64; 256],
+    twos: [u64; 32],
     threes: [u64; 8],
 }
 
@@ -111,7 +111,7 @@ impl Space {
             previous: [0; MOST_ROADS],
             labels: [0; MOST_JUNCTIONS],
             ways: [0; MOST_JUNCTIONS],
-            frontier: Frontier { keys: [0; MOST_JUNCTIONS], ones: [0; 512], twos: [0; 64], threes: [0; 8] },
+            frontier: Frontier { keys: [0; MOST_JUNCTIONS], ones: [0; 256], twos: [0; 32], threes: [0; 8] },
         }
     }
 
