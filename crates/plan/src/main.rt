@@ -3,7 +3,8 @@
 ghost use Prim.Native.Nat.{_≤_};
 ghost use lib.ListN.{length, take};
 ghost use Rattle.io.specs.Counts.{Counts};
-ghost use Rattle.text.specs.Answer.{mostRoute, mostRefusal, routeRoom};
+ghost use Rattle.text.specs.Answer.{mostRoute};
+ghost use Rattle.text.specs.Writing.{mostRefusal, routeRoom};
 ghost use Rattle.plan.specs.Response.{Responds, WithoutFiles};
 use inputs::NODES_ROOM;
 use inputs::ROADS_ROOM;

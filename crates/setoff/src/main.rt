@@ -5,7 +5,7 @@ ghost use Prim.Native.Nat.{_≤_};
 ghost use lib.ListN.{length, take};
 ghost use Rattle.io.specs.Counts.{Counts};
 ghost use Rattle.network.specs.Files.{mostJunctions};
-ghost use Rattle.text.specs.Answer.{mostRefusal, chargesRoom};
+ghost use Rattle.text.specs.Writing.{mostRefusal, chargesRoom};
 ghost use Rattle.setoff.specs.Response.{Responds, WithoutFiles};
 use inputs::NODES_ROOM;
 use inputs::ROADS_ROOM;

@@ -1,6 +1,6 @@
 -- The lines that a program writes.
 use mathlib.Core.List.{List, [], _∷_, _++_}
-use Prim.Native.Nat.{ℕ, suc, _+_, _*_, _-_}
+use Prim.Native.Nat.{ℕ, suc, _-_}
 use mathlib.Core.Bool.{cond}
 use lib.Dec.{eqb}
 use lib.IntN.{ℤ, pos, negsuc}
@@ -14,20 +14,6 @@ use Rattle.text.specs.Decimal.{decimal}
 -- the most roads of a route: it visits no junction twice
 abbrev pub mostRoute : ℕ
 mostRoute = mostJunctions - 1
-
--- the most bytes of a refusal's line, and of `bad query` and `no file`: a word of seven letters, two spaces, two numbers of
--- at most twenty digits and a newline
-abbrev pub mostRefusal : ℕ
-mostRefusal = 50
-
--- room for a route of n roads: five lines of nine letters, a space, twenty digits and a newline at most, n of five digits and a
--- newline; for the charges of n junctions: a minus sign, ten digits and a newline each. A number is put only where twenty digits
--- fit
-abbrev pub routeRoom : ℕ → ℕ
-routeRoom n = 5 * 31 + 6 * n + 20
-
-abbrev pub chargesRoom : ℕ → ℕ
-chargesRoom n = 12 * n + 20
 
 -- the words, byte by byte
 abbrev pub arrival : List ℕ

@@ -5,8 +5,8 @@ ghost use mathlib.Core.Path.{_≡_};
 ghost use lib.ListN.{length, take};
 ghost use Rattle.io.specs.Counts.{Counts};
 ghost use Rattle.text.specs.Decimal.{decimal};
-ghost use Rattle.text.specs.Answer.{mostRefusal, routeRoom, chargesRoom, numberLine, wordLine, signedLine, numberLines, signedLines, routeText, refusedText, badQuery, noFile};
-ghost use Rattle.text.specs.Writing.{Puts};
+ghost use Rattle.text.specs.Answer.{numberLine, wordLine, signedLine, numberLines, signedLines, routeText, refusedText, badQuery, noFile};
+ghost use Rattle.text.specs.Writing.{mostRefusal, routeRoom, chargesRoom, Puts};
 use planner::PlanNumbers;
 
 // The most roads of a route: it visits no junction twice.
