@@ -31,7 +31,8 @@ module _ {queue : List ℕ} (f : Frontier queue) (t : Top queue 0) where
   from-keys : (i : ℕ) → keysFrom ≤ i → entry queue i ≡ 0
   from-keys i h = let e : keysFrom + (i - keysFrom) ≡ i = omega arith in omega (arith, ap (entry queue) e, t .most (i - keysFrom))
 
-  level-up : (a b : ℕ) → treeFrom ≤ a → b ≤ groupOf a * 8 → b ≤ keysFrom → ((i : ℕ) → b ≤ i → entry queue i ≡ 0) → (i : ℕ) → a ≤ i → entry queue i ≡ 0
+  level-up : (a b : ℕ) → treeFrom ≤ a → b ≤ groupOf a * 8 → b ≤ keysFrom → ((i : ℕ) → b ≤ i → entry queue i ≡ 0)
+      → (i : ℕ) → a ≤ i → entry queue i ≡ 0
   level-up a b t h k z i l = go (decLt i b)
     where
       go : Dec (i < b) → entry queue i ≡ 0
@@ -41,7 +42,8 @@ module _ {queue : List ℕ} (f : Frontier queue) (t : Top queue 0) where
   in-tree : (i : ℕ) → treeFrom ≤ i → entry queue i ≡ 0
   in-tree =
       level-up treeFrom 8 (omega arith) (omega arith) (omega arith)
-      (level-up 8 onesFrom (omega arith) (omega arith) (omega arith) (level-up onesFrom keysFrom (omega arith) (omega arith) (omega arith) from-keys))
+      (level-up 8 onesFrom (omega arith) (omega arith) (omega arith)
+      (level-up onesFrom keysFrom (omega arith) (omega arith) (omega arith) from-keys))
 
   pub emptied : AllZero queue
   emptied i = go (decLt i treeFrom)

@@ -106,7 +106,8 @@ due-others {f} {f'} {a} {x} d p i t b ne = go (ℕ-discrete i a)
     go (no e) = greatest-other (d .rest i t b e) p ne (sym (p .rest i e))
 
 -- x is put, and the greatest of its group is due at b
-pub due-next : {f f' : ℕ → ℕ} {a b x r : ℕ} → Due f a x → Put f f' a x → Greatest f' (a / 8) r → a / 8 + treeFrom ≡ b + 1 → Due f' b r
+pub due-next : {f f' : ℕ → ℕ} {a b x r : ℕ} → Due f a x → Put f f' a x → Greatest f' (a / 8) r → a / 8 + treeFrom ≡ b + 1
+    → Due f' b r
 due-next {a} {b} d p g e = record {
   rest = λ i t h ne. due-others d p i t h (λ s. ne (omega arith));
   own = λ _. let s : a / 8 ≡ groupOf b = omega arith in rw s at g;

@@ -30,7 +30,7 @@ top-of {queue} {r} f t = record {
     -- a key that is r, one level down at a time
     below : (a b : ℕ) → treeFrom ≤ a → b ≤ keysFrom → (i : ℕ) × (a ≤ i) × (i < b) × (entry queue i ≡ r)
         → (j : ℕ) × (groupOf a * 8 ≤ j) × (j < groupOf b * 8) × (entry queue j ≡ r)
-    below a b l' h (i, l, u, e) = let (j, g, e') = f .level i (omega arith) (omega arith) .is in (j, omega arith, omega arith, e' ∙ e)
+    below a b t h (i, l, u, e) = let (j, g, e') = f .level i (omega arith) (omega arith) .is in (j, omega arith, omega arith, e' ∙ e)
 
     -- where r is not 0, it stands at the top
     at-top : r ≢ 0 → treeFrom ≤ t .is .0

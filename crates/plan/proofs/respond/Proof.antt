@@ -48,8 +48,9 @@ write-route-requires : tie.Need-write-route-requires
 write-route-requires c κs =
     let best = c .before .before .before .before .before .before .before .best-route in
     let count = c .before .before .before .answer .given .0 .0 in
+    let room = c .before .before .before .before .before .before .before .before .before .before .before .before .before .before .before .before .before .pre .1 in
     let l = length-take-le count (best .last .1 .1 .1 .0) (count-le (c .before)) in
-    omega (arith, count-le (c .before), best .kept .1 .1 .1 .0, c .before .before .before .before .before .before .before .before .before .before .before .before .before .before .before .before .before .pre .1)
+    omega (arith, count-le (c .before), best .kept .1 .1 .1 .0, room)
 
 returns-3 : tie.Need-returns-3
 returns-3 c =
