@@ -1,5 +1,6 @@
 /* Loaded before a program, it runs the program's main on a painted stack and says on standard error
- * how many bytes of it were used. PAINT in the environment is the byte to paint with. */
+ * how many bytes of it were used. PAINT in the environment is the byte to paint with; one that the
+ * program itself writes where it goes deepest would hide that. */
 #define _GNU_SOURCE
 #include <dlfcn.h>
 #include <stdio.h>
@@ -30,7 +31,7 @@ static __attribute__((noinline)) int call_on(void *top, int argc, char **argv, c
 static int painted(int argc, char **argv, char **envp)
 {
     const char *asked = getenv("PAINT");
-    unsigned char paint = (unsigned char)atoi(asked ? asked : "0");
+    unsigned char paint = (unsigned char)atoi(asked ? asked : "165");
     memset(stack, paint, BYTES);
     int result = call_on(stack + BYTES, argc, argv, envp);
     size_t lowest = 0;
