@@ -106,20 +106,18 @@ due-others {f} {f'} {a} {x} d p i t b ne = go (ℕ-discrete i a)
     go (no e) = greatest-other (d .rest i t b e) p ne (sym (p .rest i e))
 
 -- x is put, and the greatest of its group is due at b
-pub due-next : {f f' : ℕ → ℕ} {a b x r : ℕ} → Due f a x → Put f f' a x → Greatest f' (a / 8) r → a / 8 + treeFrom ≡ b + 1
-    → Due f' b r
-due-next {a} {b} d p g e = record {
+pub due-next : {f f' : ℕ → ℕ} {a b x r : ℕ} → Due f a x → Put f f' a x → Greatest f' (a / 8) r → a / 8 ≡ groupOf b → Due f' b r
+due-next d p g e = record {
   rest = λ i t h ne. due-others d p i t h (λ s. ne (omega arith));
-  own = λ _. let s : a / 8 ≡ groupOf b = omega arith in rw s at g;
+  own = λ _. rw e at g;
 }
 
 -- the same where each place gets the larger of its value and k
 pub due-raise : {f f' : ℕ → ℕ} {a b : ℕ} (k : ℕ) → Due f a (max (f a) k) → Put f f' a (max (f a) k)
-    → a / 8 + treeFrom ≡ b + 1 → treeFrom ≤ b → b < keysFrom → Due f' b (max (f' b) k)
+    → a / 8 ≡ groupOf b → treeFrom ≤ b → b < keysFrom → Due f' b (max (f' b) k)
 due-raise {f} {f'} {a} {b} k d p e t h =
     let ne : b ≢ a = λ s. omega arith in
-    let s : a / 8 ≡ groupOf b = omega arith in
-    let g : Greatest f (a / 8) (f b) = rw s (d .rest b t h ne) in
+    let g : Greatest f (a / 8) (f b) = rw e (d .rest b t h ne) in
     rw (p .rest b ne) (due-next d p (greatest-raise k g p) e)
 
 -- the top level is the end: all groups are right

@@ -1,12 +1,13 @@
 -- The queue after a change of one key. Assumes nothing.
 use mathlib.Core.Path.{_≡_, refl, ap, _∙_}
 use mathlib.Core.List.{List}
+use mathlib.Core.Logic.{_≢_}
 use Prim.Native.Nat.{ℕ, _+_, _*_, _/_, _%_, _<_, max}
 use native.Mathlib.Decide.{ℕ-discrete, decLt}
 use native.Mathlib.Omega.{arith}
 use lib.ListN.{length, set, length-set}
 use lib.Seq.{getD-set-same, set-set, set-getD}
-use Rattle.frontier.specs.Frontier.{places, treeFrom, keysFrom, entry, keyAt, Small, Put, Frontier, Raises, Removes, Now}
+use Rattle.frontier.specs.Frontier.{places, keysFrom, entry, keyAt, Small, Put, Frontier, Raises, Removes, Now}
 use Rattle.frontier.specs.Groups.{Run, Regrouped, Lifted}
 use Rattle.frontier.proofs.Stores.{put-of}
 use Rattle.frontier.proofs.Level.{above₁, above₂, above₃, Levels, Due, run-group, greatest-raise, due-key, due-next, due-raise, due-top}
@@ -49,6 +50,11 @@ puts-of queue one two three {queue'} {v} {key} {x} {y} {z} w e₁ e₂ e₃ e₄
     }
 
 module _ {queue one two three queue' : List ℕ} {v key x y z : ℕ} where
+  -- but for the entries above v, all stand as they did once the key was put
+  puts-rest : Puts queue one two three queue' v key x y z → (i : ℕ) → i ≢ above₁ v → i ≢ above₂ v → i ≢ above₃ v
+      → entry queue' i ≡ entry one i
+  puts-rest p i n₁ n₂ n₃ = p .fourth .rest i n₃ ∙ p .third .rest i n₂ ∙ p .second .rest i n₁
+
   -- the other keys stay, where v is a place
   puts-key : Puts queue one two three queue' v key x y z → v < places → Put (keyAt queue) (keyAt queue') v key
   puts-key p b = record {
@@ -57,9 +63,7 @@ module _ {queue one two three queue' : List ℕ} {v key x y z : ℕ} where
   }
     where
       below : (u : ℕ) → keyAt queue' u ≡ keyAt one u
-      below u =
-          p .fourth .rest (keysFrom + u) (λ s. omega arith) ∙ p .third .rest (keysFrom + u) (λ s. omega arith)
-          ∙ p .second .rest (keysFrom + u) (λ s. omega arith)
+      below u = puts-rest p (keysFrom + u) (λ s. omega arith) (λ s. omega arith) (λ s. omega arith)
 
   puts-frontier : Puts queue one two three queue' v key x y z → Frontier queue → v < places
       → (0 < key → key % places ≡ v) → Small queue' → Levels (entry queue') → Frontier queue'
@@ -68,15 +72,11 @@ module _ {queue one two three queue' : List ℕ} {v key x y z : ℕ} where
     whole = ap (λ (n : ℕ). n % 8) (p .long) ∙ f .whole;
     small = s;
     tells = λ u h. tells u h (ℕ-discrete u v);
-    unused = λ i t. unused i t ∙ f .unused i t;
+    unused = λ i t.
+        puts-rest p i (λ s. omega arith) (λ s. omega arith) (λ s. omega arith) ∙ p .first .rest i (λ s. omega arith) ∙ f .unused i t;
     level = l;
   }
     where
-      unused : (i : ℕ) → i < treeFrom → entry queue' i ≡ entry queue i
-      unused i t =
-          p .fourth .rest i (λ s. omega arith) ∙ p .third .rest i (λ s. omega arith) ∙ p .second .rest i (λ s. omega arith)
-          ∙ p .first .rest i (λ s. omega arith)
-
       put : Put (keyAt queue) (keyAt queue') v key
       put = puts-key p b
 

@@ -108,6 +108,11 @@ impl Question {
         Files { nodes: &self.network.nodes, roads: &self.network.roads }
     }
 
+    /// The line that asks the cab program.
+    pub fn line(&self) -> String {
+        format!("{} {} {} {}\n", self.battery, self.start, self.source, self.target)
+    }
+
     /// A list with room for any route.
     pub fn list(&self) -> Vec<u16> {
         vec![0; self.network.potentials.len()]

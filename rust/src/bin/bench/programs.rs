@@ -1,7 +1,9 @@
 //! The cab program as a process, beside a program that only reads the same line and files.
 
 use crate::networks::Question;
+use crate::queries::ask;
 use crate::times::Times;
+use std::ffi::OsStr;
 use std::fs;
 use std::io::Write;
 use std::path::{Path, PathBuf};
@@ -17,17 +19,10 @@ pub struct Folder(pub PathBuf);
 /// Times both programs in turn in a folder with the files of the question, and prints a table.
 pub fn compare(question: &Question, plan: &str, reads: &str) -> Result<(), String> {
     let folder = Folder::with(question)?;
-    let line = format!("{} {} {} {}\n", question.battery, question.start, question.source, question.target);
-    let programs = [plan, reads].map(Path::new);
-    let answer = sedge::best_route(
-        question.files(),
-        question.battery,
-        question.start,
-        question.source,
-        question.target,
-        &mut question.list(),
-    );
-    let written = run(programs[0], &folder.0, &line, &[])?.stdout;
+    let line = question.line();
+    let programs = [found(plan)?, found(reads)?];
+    let answer = ask(question, sedge::best_route, &mut question.list());
+    let written = run(&programs[0], &folder.0, &line, &[])?.stdout;
     if !written.starts_with(format!("arrival {}\n", answer.arrival).as_bytes()) {
         return Err(format!("plan differs: {}", String::from_utf8_lossy(&written)));
     }
@@ -48,9 +43,14 @@ pub fn compare(question: &Question, plan: &str, reads: &str) -> Result<(), Strin
     Ok(())
 }
 
+/// The whole path of a file, which must be there.
+pub fn found(path: &str) -> Result<PathBuf, String> {
+    fs::canonicalize(path).map_err(|e| format!("{path}: {e}"))
+}
+
 /// Runs the program in the folder with this line on its standard input and these variables in its environment; what it
-/// wrote. The program's path is an absolute one.
-pub fn run(program: &Path, folder: &Path, line: &str, variables: &[(&str, &str)]) -> Result<Output, String> {
+/// wrote.
+pub fn run(program: &Path, folder: &Path, line: &str, variables: &[(&str, &OsStr)]) -> Result<Output, String> {
     let failed = |e: std::io::Error| format!("{}: {e}", program.display());
     let mut child = Command::new(program)
         .current_dir(folder)

@@ -2,7 +2,8 @@
 //! one byte throughout, and the lowest byte that changed tells how deep it went.
 
 use crate::networks::{Case, Question};
-use crate::programs::{run, Folder};
+use crate::programs::{found, run, Folder};
+use crate::queries::ask;
 use std::path::Path;
 
 /// The marks in bytes: for an entry that searches, for one that does not, for a program.
@@ -24,23 +25,24 @@ pub fn print(cases: &[Case], library: &str, plan: &str, setoff: &str) -> Result<
     line("sedge_drive", most(&with, drive), walks);
     line("sedge_profile", most(&with, profile), walks);
     line("sedge_set_off", most(&questions, set_off), searches);
-    let Question { battery, start, source, target, depot, .. } = *with[0];
-    let folder = Folder::with(with[0])?;
-    let used = |program: &str, line: String| main_of(program, &folder.0, &line, library);
-    line("plan", used(plan, format!("{battery} {start} {source} {target}\n"))?, program);
-    line("setoff", used(setoff, format!("{battery} {depot}\n"))?, program);
+    let Question { battery, depot, .. } = *with[0];
+    let (folder, library) = (Folder::with(with[0])?, found(library)?);
+    let used = |program: &str, line: &str| main_of(&found(program)?, &folder.0, line, &library);
+    line("plan", used(plan, &with[0].line())?, program);
+    line("setoff", used(setoff, &format!("{battery} {depot}\n"))?, program);
     println!("{:26} {:>7}", "an empty call", painted::used(|| ()));
     Ok(())
 }
 
 /// What the program's main uses, in this folder with this line on its standard input.
-fn main_of(program: &str, folder: &Path, line: &str, library: &str) -> Result<usize, String> {
+fn main_of(program: &Path, folder: &Path, line: &str, library: &Path) -> Result<usize, String> {
     let mut deepest = 0;
     for paint in painted::PAINTS {
-        let variables = [("LD_PRELOAD", library), ("PAINT", &paint.to_string())];
-        let told = run(Path::new(program), folder, line, &variables)?.stderr;
+        let paint = paint.to_string();
+        let variables = [("LD_PRELOAD", library.as_os_str()), ("PAINT", paint.as_ref())];
+        let told = run(program, folder, line, &variables)?.stderr;
         let told = String::from_utf8_lossy(&told);
-        let bytes = told.trim().parse().map_err(|_| format!("{program}: no number of bytes: {told}"))?;
+        let bytes = told.trim().parse().map_err(|_| format!("{}: no number of bytes: {told}", program.display()))?;
         deepest = usize::max(deepest, bytes);
     }
     Ok(deepest)
@@ -80,10 +82,9 @@ fn set_off(question: &Question) -> usize {
 
 /// The best route of the question.
 fn route(question: &Question) -> Vec<u16> {
-    let Question { battery, start, source, target, .. } = *question;
     let mut list = question.list();
-    let answer = sedge::best_route(question.files(), battery, start, source, target, &mut list);
-    list.truncate(answer.roads as usize);
+    let roads = ask(question, sedge::best_route, &mut list).roads;
+    list.truncate(roads as usize);
     list
 }
 
