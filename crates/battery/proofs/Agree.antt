@@ -1,4 +1,4 @@
--- A route's profile and its drive agree from every start up to M, and impassable are the routes that no start drives.
+-- A route's profile and its drive agree from every start up to a full battery, and impassable are the routes that no start drives.
 -- Assumes nothing.
 use mathlib.Core.Path.{_≡_, refl}
 use mathlib.Core.List.{List}
@@ -8,6 +8,7 @@ use Rattle.battery.specs.Claims.{Arrives, Agreement, Never, ImpassableEx
 use Rattle.battery.specs.Rule.{left}
 use Rattle.battery.specs.Drive.{fresh}
 use Rattle.battery.specs.Profile.{profileOf}
+use Rattle.battery.specs.declared.Battery.{Battery}
 use Rattle.battery.specs.declared.Road.{Road}
 use Rattle.battery.specs.declared.Drove.{Drove}
 use Rattle.battery.specs.declared.Drove.the-variants.{TooLow}
@@ -27,26 +28,26 @@ arrival-at h (arrives {w} k c) = record { van = w; drives = refl; charge-is = c 
 arrival-at h (below l) = absurd (omega arith)
 
 pub agreement : Agreement
-agreement M b rs p e h =
-    let t = rw e at (tells M (fresh M b) rs refl h) in
+agreement B b rs p e h =
+    let t = rw e at (tells (fresh B b) rs h) in
     record { below = λ l. low-at l t; from = λ k. arrival-at k t }
 
 never-at : {b : ℕ} {d : Drove} → Tells b Impassable d → d ≡ TooLow
 never-at never = refl
 
 -- a passable route is driven from its need
-only : (M : ℕ) (rs : List Road) → Never M rs → (x : Passage) → profileOf M rs ≡ x → profileOf M rs ≡ Impassable
-only M rs f (Passable p) e =
-    let h : p .need ≤ M = profile-kept M rs e .need-le in
-    let a = agreement M (p .need) rs p e h .from (omega arith) in
+only : (B : Battery) (rs : List Road) → Never B rs → (x : Passage) → profileOf B rs ≡ x → profileOf B rs ≡ Impassable
+only B rs f (Passable p) e =
+    let h : p .need ≤ B .size = profile-kept B rs e .need-le in
+    let a = agreement B (p .need) rs p e h .from (omega arith) in
     let k = f (p .need) h in
     let z : _≡_ {A = ℕ} 0 1 = cc (a .drives, k) in
     absurd (omega arith)
-only M rs f Impassable e = e
+only B rs f Impassable e = e
 
-pub impassable-exactly : (M : ℕ) (rs : List Road) → ImpassableExactly M rs
-impassable-exactly M rs =
+pub impassable-exactly : (B : Battery) (rs : List Road) → ImpassableExactly B rs
+impassable-exactly B rs =
     record {
-      never = λ e b h. never-at (rw e at (tells M (fresh M b) rs refl h));
-      only = λ f. only M rs f (profileOf M rs) refl;
+      never = λ e b h. never-at (rw e at (tells (fresh B b) rs h));
+      only = λ f. only B rs f (profileOf B rs) refl;
     }

@@ -1,6 +1,6 @@
 -- A profile agrees with the drive from every start b: one road, one route followed by another, and so the roads in turn.
 -- Assumes nothing.
-use mathlib.Core.Path.{_≡_, refl, sym, ap, _∙_}
+use mathlib.Core.Path.{_≡_, refl, sym, ap, _∙_, subst}
 use mathlib.Core.Bool.{Bool, true, false}
 use mathlib.Core.List.{List, [], _∷_}
 use Prim.Native.Nat.{ℕ, _+_, _≤_, _<_, min}
@@ -9,9 +9,10 @@ use borrow.Author.Tests.{leb-true, le-leb}
 use lib.Dec.{leb}
 use lib.IntN.{pos}
 use Rattle.numbers.specs.Signed.{draw, gain}
-use Rattle.battery.specs.Rule.{drivable, left}
+use Rattle.battery.specs.Rule.{drivable, needs, left}
 use Rattle.battery.specs.Drive.{drive, driveAll, andThen}
 use Rattle.battery.specs.Profile.{noRoads, roadProfile, oneRoad, joined, followedBy, profileOf, pickPassage}
+use Rattle.battery.specs.declared.Battery.{Battery}
 use Rattle.battery.specs.declared.Road.{Road}
 use Rattle.battery.specs.declared.Van.{Van}
 use Rattle.battery.specs.declared.Drove.{Drove}
@@ -32,19 +33,19 @@ pub data Tells (b : ℕ) : Passage → Drove → Type 0 where
 
 -- ---- one road
 
-road-on : (M : ℕ) (v w : Van) (r : Road) → v .battery ≡ M → v .charge ≤ M → Went v r w
-    → Tells (v .charge) (oneRoad M r) (On w)
+road-on : (v w : Van) (r : Road) → v .charge ≤ v .battery .size → Went v r w
+    → Tells (v .charge) (oneRoad (v .battery) r) (On w)
 unfolding oneRoad
-road-on M v w r m h g =
-    let c = r .consumption in
-    let e = (rw m at (g .charge-is)) ∙ sym (road-top M (v .charge) c (g .enough) h) in
-    simp (drivable-is M c, le-leb (draw c) M (omega arith)) (arrives (g .enough) e)
+road-on v w r h g =
+    let B = v .battery in
+    let e = g .charge-is ∙ sym (road-top (B .size) (v .charge) (r .consumption) (g .enough) h) in
+    simp (drivable-is B (B .size) r, le-leb (needs B r) (B .size) (omega arith)) (arrives (g .enough) e)
 
-road-low : (M b : ℕ) (r : Road) → b < draw (r .consumption) → Tells b (oneRoad M r) TooLow
+road-low : (B : Battery) (b : ℕ) (r : Road) → b < needs B r → Tells b (oneRoad B r) TooLow
 unfolding oneRoad
-road-low M b r h = go (drivable M (r .consumption))
+road-low B b r h = go (drivable B (B .size) r)
   where
-    go : (t : Bool) → Tells b (pickPassage t (Passable (roadProfile M r)) Impassable) TooLow
+    go : (t : Bool) → Tells b (pickPassage t (Passable (roadProfile B r)) Impassable) TooLow
     go true = below h
     go false = never
 
@@ -92,26 +93,28 @@ module _ (b : ℕ) (p q : Profile) (w : Van) (sum-le : draw (p .sum) ≤ b + gai
       let k = left-is b (p .sum) in
       simp (le-leb (q .need) (p .top) (omega arith)) (arrives {p = joined p q} (omega arith) (then-charge e))
 
-followed-on : (M : ℕ) {b : ℕ} {x y : Passage} {w : Van} {d : Drove}
-    → Keeps M x → Tells b x (On w) → Tells (w .charge) y d → Tells b (followedBy x y) d
+followed-on : (B : Battery) {b : ℕ} {x y : Passage} {w : Van} {d : Drove}
+    → Keeps B x → Tells b x (On w) → Tells (w .charge) y d → Tells b (followedBy x y) d
 unfolding followedBy
-followed-on M {b} {w} P (arrives {p} h e) (arrives {p = q} k f) = then-on b p q w (omega arith) h e k f
-followed-on M {b} {w} P (arrives {p} h e) (below {p = q} l) = then-low b p q w (omega arith) h e l
-followed-on M P (arrives h e) never = never
+followed-on B {b} {w} P (arrives {p} h e) (arrives {p = q} k f) = then-on b p q w (omega arith) h e k f
+followed-on B {b} {w} P (arrives {p} h e) (below {p = q} l) = then-low b p q w (omega arith) h e l
+followed-on B P (arrives h e) never = never
 
 -- ---- the roads in turn
 
-pub tells : (M : ℕ) (v : Van) (rs : List Road) → v .battery ≡ M → v .charge ≤ M
-    → Tells (v .charge) (profileOf M rs) (driveAll v rs)
+pub tells : (v : Van) (rs : List Road) → v .charge ≤ v .battery .size
+    → Tells (v .charge) (profileOf (v .battery) rs) (driveAll v rs)
 unfolding profileOf driveAll
-tells M v [] m h =
+tells v [] h =
     let e = left-is (v .charge) (pos 0) in
-    arrives {p = noRoads M} {w = v} (omega arith) (omega arith)
-tells M v (r ∷ rs) m h = go (drive v r) (driving v r) (λ w b c. tells M w rs b c)
+    arrives {p = noRoads (v .battery)} {w = v} (omega arith) (omega arith)
+tells v (r ∷ rs) h = go (drive v r) (driving v r) (λ w k. tells w rs k)
   where
     go : (d : Drove) → Driving v r d
-        → ((w : Van) → w .battery ≡ M → w .charge ≤ M → Tells (w .charge) (profileOf M rs) (driveAll w rs))
-        → Tells (v .charge) (followedBy (oneRoad M r) (profileOf M rs)) (andThen d (λ w. driveAll w rs))
+        → ((w : Van) → w .charge ≤ w .battery .size → Tells (w .charge) (profileOf (w .battery) rs) (driveAll w rs))
+        → Tells (v .charge) (followedBy (oneRoad (v .battery) r) (profileOf (v .battery) rs)) (andThen d (λ w. driveAll w rs))
     go (On w) (on g) f =
-        followed-on M (road-keeps M r) (road-on M v w r m h g) (f w (omega arith) (omega arith))
-    go TooLow (low l) f = followed-low (profileOf M rs) (road-low M (v .charge) r l)
+        let m = ap (λ (B : Battery). B .size) (g .battery-is) in
+        let t = subst (λ (B : Battery). Tells (w .charge) (profileOf B rs) (driveAll w rs)) (g .battery-is) (f w (omega arith)) in
+        followed-on (v .battery) (road-keeps (v .battery) r) (road-on v w r h g) t
+    go TooLow (low l) f = followed-low (profileOf (v .battery) rs) (road-low (v .battery) (v .charge) r l)

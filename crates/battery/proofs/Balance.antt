@@ -15,4 +15,4 @@ one-road : (start : ℕ) (v w : Van) (r : Road) → Went v r w → Balanced star
 one-road start v w r g b = record { sums = omega arith }
 
 pub balance : Balance
-balance M b rs v e = along (Balanced b) (one-road b) (fresh M b) rs e (record { sums = omega arith }) .sums
+balance B b rs v e = along (Balanced b) (one-road b) (fresh B b) rs e (record { sums = omega arith }) .sums

@@ -13,6 +13,7 @@ use Rattle.battery.specs.Claims.{Composition}
 use Rattle.battery.specs.Rule.{left}
 use Rattle.battery.specs.Profile.{noRoads, oneRoad, joined, followedBy, profileOf, pickPassage}
 use Rattle.battery.specs.Ready.{Kept}
+use Rattle.battery.specs.declared.Battery.{Battery}
 use Rattle.battery.specs.declared.Road.{Road}
 use Rattle.battery.specs.declared.Profile.{Profile}
 use Rattle.battery.specs.declared.Passage.{Passage}
@@ -82,53 +83,53 @@ by-tests p q r Q false true e f =
     simp (lt-leb (joined q r .need) (p .top) (omega arith))
 by-tests p q r Q false false e f = refl
 
-pub followed-assoc : (M : ℕ) (x y z : Passage) → Keeps M y
+pub followed-assoc : (B : Battery) (x y z : Passage) → Keeps B y
     → followedBy (followedBy x y) z ≡ followedBy x (followedBy y z)
 unfolding followedBy
-followed-assoc M (Passable p) (Passable q) (Passable r) Q =
+followed-assoc B (Passable p) (Passable q) (Passable r) Q =
     by-tests p q r (Q .sum-need) (leb (q .need) (p .top)) (leb (r .need) (q .top)) refl refl
-followed-assoc M (Passable p) (Passable q) Impassable Q = followed-none (followedBy (Passable p) (Passable q))
-followed-assoc M (Passable p) Impassable z Q = refl
-followed-assoc M Impassable y z Q = refl
+followed-assoc B (Passable p) (Passable q) Impassable Q = followed-none (followedBy (Passable p) (Passable q))
+followed-assoc B (Passable p) Impassable z Q = refl
+followed-assoc B Impassable y z Q = refl
 
 -- ---- no roads before a route
 
-joined-none : {M : ℕ} {q : Profile} → Kept M q → joined (noRoads M) q ≡ q
-joined-none {M} {q} Q =
+joined-none : {B : Battery} {q : Profile} → Kept B q → joined (noRoads B) q ≡ q
+joined-none {B} {q} Q =
     let n = reach-is (q .need) (pos 0) in
-    let l = left-is M (q .sum) in
-    let a : joined (noRoads M) q .need ≡ q .need = omega arith in
-    let b : joined (noRoads M) q .top ≡ q .top = omega arith in
+    let l = left-is (B .size) (q .sum) in
+    let a : joined (noRoads B) q .need ≡ q .need = omega arith in
+    let b : joined (noRoads B) q .top ≡ q .top = omega arith in
     λ i. record { need = a i; sum = +ℤ-idl (q .sum) i; top = b i }
 
-followed-first : (M : ℕ) (y : Passage) → Keeps M y → followedBy (Passable (noRoads M)) y ≡ y
+followed-first : (B : Battery) (y : Passage) → Keeps B y → followedBy (Passable (noRoads B)) y ≡ y
 unfolding followedBy
-followed-first M (Passable q) Q = simp (le-leb (q .need) M (Q .need-le)) (ap Passable (joined-none Q))
-followed-first M Impassable Q = refl
+followed-first B (Passable q) Q = simp (le-leb (q .need) (B .size) (Q .need-le)) (ap Passable (joined-none Q))
+followed-first B Impassable Q = refl
 
 -- ---- two routes
 
 pub compose : Composition
 unfolding profileOf
-compose M [] qs = sym (followed-first M (profileOf M qs) (profile-keeps M qs))
-compose M (r ∷ ps) qs =
-    ap (followedBy (oneRoad M r)) (compose M ps qs)
-    ∙ sym (followed-assoc M (oneRoad M r) (profileOf M ps) (profileOf M qs) (profile-keeps M ps))
+compose B [] qs = sym (followed-first B (profileOf B qs) (profile-keeps B qs))
+compose B (r ∷ ps) qs =
+    ap (followedBy (oneRoad B r)) (compose B ps qs)
+    ∙ sym (followed-assoc B (oneRoad B r) (profileOf B ps) (profileOf B qs) (profile-keeps B ps))
 
 -- ---- one road more
 
-followed-last : (M : ℕ) (x : Passage) → Keeps M x → followedBy x (Passable (noRoads M)) ≡ x
+followed-last : (B : Battery) (x : Passage) → Keeps B x → followedBy x (Passable (noRoads B)) ≡ x
 unfolding followedBy
-followed-last M (Passable p) P =
+followed-last B (Passable p) P =
     let n = reach-is 0 (p .sum) in
     let l = left-is (p .top) (pos 0) in
-    let a : joined p (noRoads M) .need ≡ p .need = omega arith in
-    let b : joined p (noRoads M) .top ≡ p .top = omega arith in
+    let a : joined p (noRoads B) .need ≡ p .need = omega arith in
+    let b : joined p (noRoads B) .top ≡ p .top = omega arith in
     simp (le-leb 0 (p .top) (omega arith)) (λ i. Passable (record { need = a i; sum = +ℤ-idr (p .sum) i; top = b i }))
-followed-last M Impassable P = refl
+followed-last B Impassable P = refl
 
-pub compose-one : (M : ℕ) (rs : List Road) (r : Road)
-    → profileOf M (rs ++ (r ∷ [])) ≡ followedBy (profileOf M rs) (oneRoad M r)
+pub compose-one : (B : Battery) (rs : List Road) (r : Road)
+    → profileOf B (rs ++ (r ∷ [])) ≡ followedBy (profileOf B rs) (oneRoad B r)
 unfolding profileOf
-compose-one M rs r =
-    compose M rs (r ∷ []) ∙ ap (followedBy (profileOf M rs)) (followed-last M (oneRoad M r) (road-keeps M r))
+compose-one B rs r =
+    compose B rs (r ∷ []) ∙ ap (followedBy (profileOf B rs)) (followed-last B (oneRoad B r) (road-keeps B r))

@@ -7,7 +7,7 @@ use native.Mathlib.Omega.{arith}
 use borrow.Author.Tests.{leb-true, leb-false, le-leb, lt-leb}
 use lib.Dec.{leb}
 use Rattle.numbers.specs.Signed.{draw, gain}
-use Rattle.battery.specs.Rule.{drivable}
+use Rattle.battery.specs.Rule.{drivable, needs}
 use Rattle.battery.specs.Drive.{driven, drive, driveAll, andThen, pickDrove}
 use Rattle.battery.specs.declared.Road.{Road}
 use Rattle.battery.specs.declared.Van.{Van}
@@ -17,19 +17,19 @@ use Rattle.battery.proofs.Rule.{left-is, drivable-is}
 
 -- w comes of v by the road r, in naturals
 pub record Went (v : Van) (r : Road) (w : Van) : Type 0 where
-  pub enough : draw (r .consumption) ≤ v .charge
+  pub enough : needs (v .battery) r ≤ v .charge
   pub battery-is : w .battery ≡ v .battery
-  pub charge-is : w .charge ≡ min (v .charge - draw (r .consumption) + gain (r .consumption)) (v .battery)
+  pub charge-is : w .charge ≡ min (v .charge - draw (r .consumption) + gain (r .consumption)) (v .battery .size)
   pub drawn-is : w .drawn ≡ v .drawn + draw (r .consumption)
   pub recovered-is : w .recovered ≡ v .recovered + gain (r .consumption)
-  pub spilled-is : w .spilled ≡ v .spilled + (v .charge - draw (r .consumption) + gain (r .consumption) - v .battery)
+  pub spilled-is : w .spilled ≡ v .spilled + (v .charge - draw (r .consumption) + gain (r .consumption) - v .battery .size)
 
 -- what a drive of one road comes to
 pub data Driving (v : Van) (r : Road) : Drove → Type 0 where
   on : {w : Van} → Went v r w → Driving v r (On w)
-  low : v .charge < draw (r .consumption) → Driving v r TooLow
+  low : v .charge < needs (v .battery) r → Driving v r TooLow
 
-driven-went : (v : Van) (r : Road) → draw (r .consumption) ≤ v .charge → Went v r (driven v r)
+driven-went : (v : Van) (r : Road) → needs (v .battery) r ≤ v .charge → Went v r (driven v r)
 unfolding driven
 driven-went v r h =
     let e = left-is (v .charge) (r .consumption) in
@@ -42,14 +42,14 @@ driven-went v r h =
       spilled-is = omega arith;
     }
 
-by-test : (v : Van) (r : Road) (t : Bool) → leb (draw (r .consumption)) (v .charge) ≡ t
+by-test : (v : Van) (r : Road) (t : Bool) → leb (needs (v .battery) r) (v .charge) ≡ t
     → Driving v r (pickDrove t (On (driven v r)) TooLow)
 by-test v r true e = on (driven-went v r (leb-true _ _ e))
 by-test v r false e = low (leb-false _ _ e)
 
 pub driving : (v : Van) (r : Road) → Driving v r (drive v r)
 unfolding drive
-driving v r = by-test v r (drivable (v .charge) (r .consumption)) (sym (drivable-is (v .charge) (r .consumption)))
+driving v r = by-test v r (drivable (v .battery) (v .charge) r) (sym (drivable-is (v .battery) (v .charge) r))
 
 pub went : (v : Van) (r : Road) {w : Van} → drive v r ≡ On w → Went v r w
 went v r {w} e = go (subst (Driving v r) e (driving v r))
@@ -57,13 +57,13 @@ went v r {w} e = go (subst (Driving v r) e (driving v r))
     go : Driving v r (On w) → Went v r w
     go (on g) = g
 
-pub goes : (v : Van) (r : Road) → draw (r .consumption) ≤ v .charge → drive v r ≡ On (driven v r)
+pub goes : (v : Van) (r : Road) → needs (v .battery) r ≤ v .charge → drive v r ≡ On (driven v r)
 unfolding drive
-goes v r h = simp (drivable-is (v .charge) (r .consumption), le-leb _ _ h)
+goes v r h = simp (drivable-is (v .battery) (v .charge) r, le-leb _ _ h)
 
-pub stays : (v : Van) (r : Road) → v .charge < draw (r .consumption) → drive v r ≡ TooLow
+pub stays : (v : Van) (r : Road) → v .charge < needs (v .battery) r → drive v r ≡ TooLow
 unfolding drive
-stays v r h = simp (drivable-is (v .charge) (r .consumption), lt-leb _ _ h)
+stays v r h = simp (drivable-is (v .battery) (v .charge) r, lt-leb _ _ h)
 
 -- ---- the roads in turn
 

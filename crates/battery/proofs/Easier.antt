@@ -1,6 +1,6 @@
 -- The drive over roads that take no more: with no smaller battery and no less charge it arrives too, and with no less.
 -- Assumes nothing.
-use mathlib.Core.Path.{_≡_, refl, subst}
+use mathlib.Core.Path.{_≡_, refl, ap, subst}
 use mathlib.Core.Bool.{true}
 use mathlib.Core.List.{List, [], _∷_}
 use Prim.Native.Nat.{ℕ, _≤_}
@@ -8,6 +8,7 @@ use native.Mathlib.Omega.{arith}
 use lib.Signed.{leZ}
 use Rattle.numbers.proofs.Diff.{draw-mono, gain-mono}
 use Rattle.battery.specs.Drive.{drive, driveAll, andThen}
+use Rattle.battery.specs.declared.Battery.{Battery}
 use Rattle.battery.specs.declared.Road.{Road}
 use Rattle.battery.specs.declared.Van.{Van}
 use Rattle.battery.specs.declared.Drove.{Drove}
@@ -22,7 +23,7 @@ pub data Easier : List Road → List Road → Type 0 where
 
 -- w has no smaller battery and no less charge than v
 pub record Above (v w : Van) : Type 0 where
-  pub battery-le : v .battery ≤ w .battery
+  pub battery-le : v .battery .size ≤ w .battery .size
   pub charge-le : v .charge ≤ w .charge
 
 -- a drive that arrives above `end`
@@ -36,6 +37,8 @@ one-road : {v w v' w' : Van} (r r' : Road) → leZ (r' .consumption) (r .consump
 one-road r r' e a g h =
     let d = draw-mono (r' .consumption) (r .consumption) e in
     let c = gain-mono (r' .consumption) (r .consumption) e in
+    let m = ap (λ (B : Battery). B .size) (g .battery-is) in
+    let n = ap (λ (B : Battery). B .size) (h .battery-is) in
     record { battery-le = omega arith; charge-le = omega arith }
 
 pub easier-arrives : {v w end : Van} {rs rs' : List Road} → Easier rs rs' → Above v w → driveAll v rs ≡ On end

@@ -19,10 +19,11 @@ not-below b c h =
     ∙ le-leb (0 + (0 + draw c)) (b + gain c + 0) (omega arith)
 
 pub left-exact : LeftExact
-left-exact b c e =
-    sym (from-zero (pos b -ℤ c) (not-below b c (leb-true (draw c) b (sym (drivable-is b c) ∙ e))))
+left-exact B b r e =
+    let c = r .consumption in
+    sym (from-zero (pos b -ℤ c) (not-below b c (leb-true (draw c) b (sym (drivable-is B b r) ∙ e))))
 
 pub sum-within-need : SumWithinNeed
-sum-within-need M rs p e =
-    let k = profile-kept M rs e .sum-need in
+sum-within-need B rs p e =
+    let k = profile-kept B rs e .sum-need in
     diff-leZ (diff-self (p .sum)) (diff-pos (p .need)) ∙ le-leb (draw (p .sum) + 0) (p .need + gain (p .sum)) (omega arith)

@@ -9,9 +9,10 @@ use lib.Dec.{leb}
 use lib.IntN.{ℤ, pos, _+ℤ_}
 use Rattle.numbers.specs.Signed.{draw, gain}
 use Rattle.numbers.proofs.Diff.{diff-self, diff-pos, diff-add, diff-minus, draw-of, draw-add, gain-add}
-use Rattle.battery.specs.Rule.{drivable, left}
+use Rattle.battery.specs.Rule.{drivable, needs, left}
 use Rattle.battery.specs.Profile.{noRoads, roadProfile, oneRoad, joined, followedBy, profileOf, pickPassage}
 use Rattle.battery.specs.Ready.{Kept}
+use Rattle.battery.specs.declared.Battery.{Battery}
 use Rattle.battery.specs.declared.Road.{Road}
 use Rattle.battery.specs.declared.Profile.{Profile}
 use Rattle.battery.specs.declared.Passage.{Passage}
@@ -19,9 +20,9 @@ use Rattle.battery.specs.declared.Passage.the-variants.{Passable, Impass
 use Rattle.battery.proofs.Rule.{left-is, drivable-is}
 
 -- a route that has a profile keeps Kept
-abbrev pub Keeps : ℕ → Passage → Type 0
-Keeps M (Passable p) = Kept M p
-Keeps M Impassable = Unit {0}
+abbrev pub Keeps : Battery → Passage → Type 0
+Keeps B (Passable p) = Kept B p
+Keeps B Impassable = Unit {0}
 
 -- ---- sums and what is left, as naturals
 
@@ -45,19 +46,19 @@ left-min a b x =
 
 -- ---- no roads, and one road
 
-pub none-kept : (M : ℕ) → Kept M (noRoads M)
-none-kept M = omega arith
+pub none-kept : (B : Battery) → Kept B (noRoads B)
+none-kept B = omega arith
 
-passed-kept : (M : ℕ) (r : Road) → draw (r .consumption) ≤ M → Kept M (roadProfile M r)
-passed-kept M r h = let e = left-is M (r .consumption) in omega arith
+passed-kept : (B : Battery) (r : Road) → needs B r ≤ B .size → Kept B (roadProfile B r)
+passed-kept B r h = let e = left-is (B .size) (r .consumption) in omega arith
 
-pub road-keeps : (M : ℕ) (r : Road) → Keeps M (oneRoad M r)
+pub road-keeps : (B : Battery) (r : Road) → Keeps B (oneRoad B r)
 unfolding oneRoad
-road-keeps M r = go (drivable M (r .consumption)) (sym (drivable-is M (r .consumption)))
+road-keeps B r = go (drivable B (B .size) r) (sym (drivable-is B (B .size) r))
   where
-    go : (t : Bool) → leb (draw (r .consumption)) M ≡ t
-        → Keeps M (pickPassage t (Passable (roadProfile M r)) Impassable)
-    go true e = passed-kept M r (leb-true _ _ e)
+    go : (t : Bool) → leb (needs B r) (B .size) ≡ t
+        → Keeps B (pickPassage t (Passable (roadProfile B r)) Impassable)
+    go true e = passed-kept B r (leb-true _ _ e)
     go false e = tt
 
 road-min : (M b d g : ℕ) → d ≤ b → b ≤ M → min (min M (M + g - d)) (b + g - d) ≡ min (b - d + g) M
@@ -69,7 +70,7 @@ road-top M b c h k = rw (left-is M c, left-is b c) (road-min M b (draw c) (gain 
 
 -- ---- one route followed by another
 
-pub joined-kept : {M : ℕ} {p q : Profile} → Kept M p → Kept M q → q .need ≤ p .top → Kept M (joined p q)
+pub joined-kept : {B : Battery} {p q : Profile} → Kept B p → Kept B q → q .need ≤ p .top → Kept B (joined p q)
 joined-kept {p} {q} P Q h =
     let n = reach-is (q .need) (p .sum) in
     let d = draw-add (p .sum) (q .sum) in
@@ -77,20 +78,20 @@ joined-kept {p} {q} P Q h =
     let t = left-is (p .top) (q .sum) in
     omega arith
 
-followed-keeps : (M : ℕ) (x y : Passage) → Keeps M x → Keeps M y → Keeps M (followedBy x y)
+followed-keeps : (B : Battery) (x y : Passage) → Keeps B x → Keeps B y → Keeps B (followedBy x y)
 unfolding followedBy
-followed-keeps M (Passable p) (Passable q) P Q = go (leb (q .need) (p .top)) refl
+followed-keeps B (Passable p) (Passable q) P Q = go (leb (q .need) (p .top)) refl
   where
-    go : (t : Bool) → leb (q .need) (p .top) ≡ t → Keeps M (pickPassage t (Passable (joined p q)) Impassable)
+    go : (t : Bool) → leb (q .need) (p .top) ≡ t → Keeps B (pickPassage t (Passable (joined p q)) Impassable)
     go true e = joined-kept P Q (leb-true _ _ e)
     go false e = tt
-followed-keeps M (Passable p) Impassable P Q = tt
-followed-keeps M Impassable y P Q = tt
+followed-keeps B (Passable p) Impassable P Q = tt
+followed-keeps B Impassable y P Q = tt
 
-pub profile-keeps : (M : ℕ) (rs : List Road) → Keeps M (profileOf M rs)
+pub profile-keeps : (B : Battery) (rs : List Road) → Keeps B (profileOf B rs)
 unfolding profileOf
-profile-keeps M [] = none-kept M
-profile-keeps M (r ∷ rs) = followed-keeps M (oneRoad M r) (profileOf M rs) (road-keeps M r) (profile-keeps M rs)
+profile-keeps B [] = none-kept B
+profile-keeps B (r ∷ rs) = followed-keeps B (oneRoad B r) (profileOf B rs) (road-keeps B r) (profile-keeps B rs)
 
-pub profile-kept : (M : ℕ) (rs : List Road) {p : Profile} → profileOf M rs ≡ Passable p → Kept M p
-profile-kept M rs e = subst (Keeps M) e (profile-keeps M rs)
+pub profile-kept : (B : Battery) (rs : List Road) {p : Profile} → profileOf B rs ≡ Passable p → Kept B p
+profile-kept B rs e = subst (Keeps B) e (profile-keeps B rs)

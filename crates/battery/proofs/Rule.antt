@@ -6,13 +6,16 @@ use lib.Dec.{leb}
 use lib.IntN.{ℤ, pos, negsuc}
 use Rattle.numbers.proofs.Diff.{diff-self, diff-pos, diff-minus, diff-leZ, draw-of, leb-same}
 use Rattle.numbers.specs.Signed.{draw, gain}
-use Rattle.battery.specs.Rule.{drivable, left}
+use Rattle.battery.specs.Rule.{drivable, needs, left}
+use Rattle.battery.specs.declared.Battery.{Battery}
+use Rattle.battery.specs.declared.Road.{Road}
 
 pub left-is : (b : ℕ) (c : ℤ) → left b c ≡ b + gain c - draw c
 left-is b c = let e = draw-of (diff-minus (diff-pos b) (diff-self c)) in omega arith
 
-pub drivable-is : (b : ℕ) (c : ℤ) → drivable b c ≡ leb (draw c) b
-drivable-is b c =
+pub drivable-is : (B : Battery) (b : ℕ) (r : Road) → drivable B b r ≡ leb (needs B r) b
+drivable-is B b r =
+    let c = r .consumption in
     diff-leZ (diff-self c) (diff-pos b)
     ∙ leb-same (draw c + 0) (b + gain c) (draw c) b (one c) (λ h. omega arith)
   where

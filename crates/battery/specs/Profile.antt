@@ -1,11 +1,12 @@
 -- The profile of one route: three numbers that give the arrival at any start.
 use mathlib.Core.Bool.{Bool, true, false}
 use mathlib.Core.List.{List, [], _∷_}
-use Prim.Native.Nat.{ℕ, min, max}
+use Prim.Native.Nat.{min, max}
 use lib.Dec.{leb}
 use lib.IntN.{pos, _+ℤ_}
 use Rattle.numbers.specs.Signed.{draw}
-use Rattle.battery.specs.Rule.{drivable, left}
+use Rattle.battery.specs.Rule.{drivable, needs, left}
+use Rattle.battery.specs.declared.Battery.{Battery}
 use Rattle.battery.specs.declared.Road.{Road}
 use Rattle.battery.specs.declared.Profile.{Profile}
 use Rattle.battery.specs.declared.Passage.{Passage}
@@ -16,21 +17,21 @@ pickPassage true a b = a
 pickPassage false a b = b
 
 -- no roads: need 0, sum 0, top M
-abbrev pub noRoads : ℕ → Profile
-noRoads M = record { need = 0; sum = pos 0; top = M }
+abbrev pub noRoads : Battery → Profile
+noRoads B = record { need = 0; sum = pos 0; top = B .size }
 
 -- one road c ≤ M: need the larger of 0 and c; sum c; top the smaller of M and M − c
-abbrev pub roadProfile : ℕ → Road → Profile
-roadProfile M r =
+abbrev pub roadProfile : Battery → Road → Profile
+roadProfile B r =
     record {
-      need = draw (r .consumption);
+      need = needs B r;
       sum = r .consumption;
-      top = min M (left M (r .consumption));
+      top = min (B .size) (left (B .size) (r .consumption));
     }
 
 -- a road with c > M is impassable
-unfoldable pub oneRoad : ℕ → Road → Passage
-oneRoad M r = pickPassage (drivable M (r .consumption)) (Passable (roadProfile M r)) Impassable
+unfoldable pub oneRoad : Battery → Road → Passage
+oneRoad B r = pickPassage (drivable B (B .size) r) (Passable (roadProfile B r)) Impassable
 
 -- P followed by Q: need is the larger of need of P and need of Q + sum of P; sum is added; top is the smaller of top of Q
 -- and top of P − sum of Q
@@ -49,6 +50,6 @@ followedBy (Passable p) Impassable = Impassable
 followedBy Impassable q = Impassable
 
 -- a route: its first road followed by the rest
-unfoldable pub profileOf : ℕ → List Road → Passage
-profileOf M [] = Passable (noRoads M)
-profileOf M (r ∷ rs) = followedBy (oneRoad M r) (profileOf M rs)
+unfoldable pub profileOf : Battery → List Road → Passage
+profileOf B [] = Passable (noRoads B)
+profileOf B (r ∷ rs) = followedBy (oneRoad B r) (profileOf B rs)

@@ -22,9 +22,14 @@ pub struct Road {
     pub consumption: i32,
 }
 
-// A van on its way: the size of its battery, its charge, and the totals of the roads driven so far.
+// A battery, in mWh.
+pub struct Battery {
+    pub size: u32,
+}
+
+// A van on its way: its battery, its charge, and the totals of the roads driven so far.
 pub struct Van {
-    pub battery: u32,
+    pub battery: Battery,
     pub charge: u32,
     pub drawn: u64,
     pub recovered: u64,
@@ -53,7 +58,7 @@ pub enum Passage {
 
 impl Van {
     // A van that sets out.
-    pub fn new(battery: u32, start: u32) -> Van
+    pub fn new(battery: Battery, start: u32) -> Van
         ensures { λ r. ⌜ r ≡ fresh battery start ⌝ }
     {
         Van {
@@ -75,10 +80,11 @@ impl Van {
         if self.charge < takes {
             return Drove::TooLow;
         }
+        let battery = self.battery;
         let left = self.charge - takes + gives;
-        let over = above(left, self.battery);
+        let over = above(left, battery.size);
         Drove::On(Van {
-            battery: self.battery,
+            battery,
             charge: left - over,
             drawn: self.drawn + takes as u64,
             recovered: self.recovered + gives as u64,
@@ -89,18 +95,18 @@ impl Van {
 
 impl Profile {
     // The route of no roads.
-    pub fn new(battery: u32) -> Profile
+    pub fn new(battery: Battery) -> Profile
         ensures { λ r. ⌜ r ≡ noRoads battery ⌝ }
     {
         Profile {
             need: 0,
             sum: 0,
-            top: battery,
+            top: battery.size,
         }
     }
 
     // This route with one road more.
-    pub fn then(self, battery: u32, road: Road) -> Passage
+    pub fn then(self, battery: Battery, road: Road) -> Passage
         requires { ⌜ Extends battery self road ⌝ }
         ensures { λ r. ⌜ r ≡ followedBy (Passable self) (oneRoad battery road) ⌝ }
     {
@@ -115,7 +121,7 @@ impl Profile {
         Passage::Passable(Profile {
             need: larger(self.need, reach),
             sum: self.sum + road.consumption as i64,
-            top: left - above(left, battery),
+            top: left - above(left, battery.size),
         })
     }
 }

@@ -1,3 +1,1 @@
-pub mod Filling
-pub mod OneOutcome
-pub mod Below
+mod Filling

@@ -1,3 +1,1 @@
-pub mod Promise
-pub mod Claims
 pub mod Filling

@@ -1,17 +1,13 @@
--- A list of zeros; as a queue it is one in which nothing waits, and the other way round. Assumes nothing.
+-- A list of zeros is a queue in which nothing waits, and the other way round. Assumes nothing.
 use mathlib.Core.Path.{_≡_, refl, ap}
 use mathlib.Core.List.{List}
 use mathlib.Core.Logic.{inl}
-use Prim.Native.Nat.{ℕ, zero, suc, _+_, _*_, _-_, _%_, _≤_, _<_}
+use Prim.Native.Nat.{ℕ, _+_, _*_, _-_, _%_, _≤_, _<_}
 use native.Mathlib.Decide.{decLt}
 use native.Mathlib.Omega.{arith}
-use lib.ListN.{length, replicate}
-use Rattle.frontier.specs.Frontier.{treeFrom, onesFrom, keysFrom, groupOf, entry, AllZero, Frontier, Top}
-
-pub zeros : (n i : ℕ) → entry (replicate n 0) i ≡ 0
-zeros zero i = refl
-zeros (suc n) zero = refl
-zeros (suc n) (suc i) = zeros n i
+use lib.ListN.{length}
+use Rattle.lists.specs.Lists.{entry, AllZero}
+use Rattle.frontier.specs.Frontier.{treeFrom, onesFrom, keysFrom, groupOf, Frontier, Top}
 
 pub empty : (queue : List ℕ) → AllZero queue → keysFrom ≤ length queue → length queue % 8 ≡ 0 → Frontier queue
 empty queue z l w = record {

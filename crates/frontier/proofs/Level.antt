@@ -4,7 +4,8 @@ use mathlib.Core.Logic.{_≢_}
 use Prim.Native.Nat.{ℕ, _+_, _*_, _/_, _≤_, _<_, max}
 use native.Mathlib.Decide.{ℕ-discrete, decLt}
 use native.Mathlib.Omega.{arith}
-use Rattle.frontier.specs.Frontier.{treeFrom, onesFrom, keysFrom, groupOf, Greatest, Put}
+use Rattle.lists.specs.Lists.{Put}
+use Rattle.frontier.specs.Frontier.{treeFrom, onesFrom, keysFrom, groupOf, Greatest}
 use Rattle.frontier.specs.Groups.{Run}
 
 -- where the entries above the key of v stand

@@ -7,9 +7,10 @@ use native.Mathlib.Decide.{ℕ-discrete, decLt}
 use native.Mathlib.Omega.{arith}
 use lib.ListN.{length, set, length-set}
 use lib.Seq.{getD-set-same, set-set, set-getD}
-use Rattle.frontier.specs.Frontier.{places, keysFrom, entry, keyAt, Small, Put, Frontier, Raises, Removes, Now}
+use Rattle.lists.proofs.Stores.{set-put}
+use Rattle.lists.specs.Lists.{entry, Put}
+use Rattle.frontier.specs.Frontier.{places, keysFrom, keyAt, Small, Frontier, Raises, Removes, Now}
 use Rattle.frontier.specs.Groups.{Run, Regrouped, Lifted}
-use Rattle.frontier.proofs.Stores.{put-of}
 use Rattle.frontier.proofs.Level.{above₁, above₂, above₃, Levels, Due, run-group, greatest-raise, due-key, due-next, due-raise, due-top}
 use Rattle.frontier.proofs.Top.{top-of, top-raise}
 
@@ -18,7 +19,7 @@ pub regrouped : (queue : List ℕ) (a x : ℕ) {m r : ℕ} → a < length queue
     → Run (entry (set queue a 0)) (a / 8 * 8) (a / 8 * 8 + 8) m → r ≡ max m x → Regrouped queue a x (set (set queue a 0) a x) r
 regrouped queue a x l g e = record {
   is = set-set queue a 0 x;
-  greatest = rw e (greatest-raise x (run-group (a / 8) g) (put-of (set queue a 0) (simp length-set l) (ap (set (set queue a 0) a) larger)));
+  greatest = rw e (greatest-raise x (run-group (a / 8) g) (set-put (set queue a 0) (simp length-set l) (ap (set (set queue a 0) a) larger)));
 }
   where
     larger : x ≡ max (entry (set queue a 0) a) x
@@ -43,10 +44,10 @@ puts-of queue one two three {queue'} {v} {key} {x} {y} {z} w e₁ e₂ e₃ e₄
     let l₃ : length three ≡ length queue = ap length e₃ ∙ length-set two (above₂ v) y ∙ l₂ in
     record {
       long = ap length e₄ ∙ length-set three (above₃ v) z ∙ l₃;
-      first = put-of queue w e₁;
-      second = put-of one (omega arith) e₂;
-      third = put-of two (omega arith) e₃;
-      fourth = put-of three (omega arith) e₄;
+      first = set-put queue w e₁;
+      second = set-put one (omega arith) e₂;
+      third = set-put two (omega arith) e₃;
+      fourth = set-put three (omega arith) e₄;
     }
 
 module _ {queue one two three queue' : List ℕ} {v key x y z : ℕ} where

@@ -5,7 +5,8 @@ use mathlib.Core.List.{List}
 use Prim.Native.Nat.{ℕ, _+_, _*_, _-_, _%_, _^_, _≤_, _<_, max}
 use native.Mathlib.Decide.{ℕ-discrete, decLt}
 use native.Mathlib.Omega.{arith}
-use Rattle.frontier.specs.Frontier.{places, treeFrom, onesFrom, keysFrom, groupOf, entry, keyAt, Greatest, Put, Frontier, Top}
+use Rattle.lists.specs.Lists.{entry, Put}
+use Rattle.frontier.specs.Frontier.{places, treeFrom, onesFrom, keysFrom, groupOf, keyAt, Greatest, Frontier, Top}
 use Rattle.frontier.proofs.Level.{above₁, above₂, above₃}
 
 -- the greatest of the top level is the greatest key

@@ -2,9 +2,10 @@
 -- keys. It may have any whole number of groups; past the end every entry is 0. No entry's promise cites this file.
 use mathlib.Core.Path.{_≡_}
 use mathlib.Core.List.{List}
-use mathlib.Core.Logic.{_⊎_, _≢_}
+use mathlib.Core.Logic.{_⊎_}
 use Prim.Native.Nat.{ℕ, _+_, _*_, _-_, _/_, _%_, _^_, _≤_, _<_}
-use lib.ListN.{length, getD}
+use lib.ListN.{length}
+use Rattle.lists.specs.Lists.{entry, Put}
 
 -- how many entries stand at the top, at the end of the first group: one for 512 places
 abbrev pub tops : ℕ
@@ -28,13 +29,6 @@ keysFrom = onesFrom + 64 * tops
 abbrev pub groupOf : ℕ → ℕ
 groupOf i = i + 1 - treeFrom
 
-abbrev pub entry : List ℕ → ℕ → ℕ
-entry queue i = getD queue i 0
-
--- every entry is 0
-abbrev pub AllZero : List ℕ → Type 0
-AllZero queue = (i : ℕ) → entry queue i ≡ 0
-
 -- the key of place v, 0 where it does not wait
 abbrev pub keyAt : List ℕ → ℕ → ℕ
 keyAt queue v = entry queue (keysFrom + v)
@@ -47,11 +41,6 @@ pub record Small (queue : List ℕ) : Type 0 where
 pub record Greatest (f : ℕ → ℕ) (i m : ℕ) : Type 0 where
   pub most : (j : ℕ) → j / 8 ≡ i → f j ≤ m
   pub is : (j : ℕ) × (j / 8 ≡ i) × (f j ≡ m)
-
--- f' is f with x at a
-pub record Put (f f' : ℕ → ℕ) (a x : ℕ) : Type 0 where
-  pub here : f' a ≡ x
-  pub rest : (i : ℕ) → i ≢ a → f' i ≡ f i
 
 -- a queue
 pub record Frontier (queue : List ℕ) : Type 0 where

@@ -3,7 +3,8 @@ use mathlib.Core.Path.{_≡_}
 use mathlib.Core.List.{List}
 use Prim.Native.Nat.{ℕ, _/_, _≤_, _<_, max}
 use lib.ListN.{set}
-use Rattle.frontier.specs.Frontier.{entry, Greatest}
+use Rattle.lists.specs.Lists.{entry}
+use Rattle.frontier.specs.Frontier.{Greatest}
 
 -- m is the greatest of f from a up to, not including, b
 pub record Run (f : ℕ → ℕ) (a b m : ℕ) : Type 0 where

@@ -4,7 +4,8 @@
 ghost use mathlib.Core.Path.{_≡_};
 ghost use Prim.Native.Nat.{_+_, _*_, _/_, _^_, _≤_, _<_, max};
 ghost use lib.ListN.{length};
-ghost use Rattle.frontier.specs.Frontier.{entry, keyAt, Small, Raises, Removes, Now};
+ghost use Rattle.lists.specs.Lists.{entry};
+ghost use Rattle.frontier.specs.Frontier.{keyAt, Small, Raises, Removes, Now};
 ghost use Rattle.frontier.specs.Groups.{Run, Regrouped, Lifted};
 
 // How many entries stand at the top, one for 512 places.

@@ -8,13 +8,13 @@ use lib.Seq.{take-append-seam}
 use Rattle.numbers.specs.Signed.{draw}
 use Rattle.battery.specs.Drive.{driven, drive, driveAll}
 use Rattle.battery.specs.declared.Van.{Van}
-use Rattle.network.proofs.Faults.{number-pos}
-use Rattle.network.specs.Walks.{roadsOf}
-use Rattle.planner.specs.Given.{planNumbers}
-use Rattle.planner.specs.declared.Planned.the-variants as planned
-use Rattle.planner.specs.declared.PlanNumbers.{PlanNumbers}
+use Rattle.refusals.proofs.Early.{number-pos}
+use Rattle.journeys.specs.Walks.{roadsOf}
+use Rattle.promises.specs.Given.{planNumbers}
+use Rattle.promises.specs.declared.Planned.the-variants as planned
+use Rattle.promises.specs.declared.PlanNumbers.{PlanNumbers}
 use Rattle.hill.specs.Broken.{RefusesAll, OneFixedArrival, NeverWrites, onlySubtracts, OnlySubtracts, InventsSpill}
-use Rattle.hill.specs.Hill.{roads, asks}
+use Rattle.hill.specs.Hill.{roads, sized, asks}
 use Rattle.hill.specs.Table.{Only}
 use Rattle.hill.proofs.Outcomes.{BestBy, best-only, best-arrival}
 use Rattle.hill.proofs.Rows.{better}
@@ -22,7 +22,7 @@ use Rattle.hill.proofs.Walks.{to-3, hill-3}
 
 -- start 900 from 0 to 3: the van at the end, and the one outcome
 abbrev van-900 : Van
-van-900 = record { battery = 1000; charge = 100; drawn = 1200; recovered = 500; spilled = 100 }
+van-900 = record { battery = sized 1000; charge = 100; drawn = 1200; recovered = 500; spilled = 100 }
 
 best-900 : BestBy (asks 1000 900 0 3) (0 ∷ 1 ∷ 3 ∷ []) van-900
 unfolding driveAll drive driven
@@ -57,7 +57,7 @@ only-subtracts list a ks h p l s =
     let r = ap (λ (n : PlanNumbers). n .roads) (o .0) in
     let c = ap (λ (n : PlanNumbers). n .arrival) (o .0) in
     let k = three-first ks (drop (length ks) list) (drop 3 list) (sym l ∙ r) (o .1) in
-    let t = ap draw (s ∙ ap (λ (js : List ℕ). onlySubtracts 1000 900 (roadsOf roads js)) k) in
+    let t = ap draw (s ∙ ap (λ (js : List ℕ). onlySubtracts (sized 1000) 900 (roadsOf roads js)) k) in
     omega arith
 
 pub invents-spill : InventsSpill

@@ -13,21 +13,22 @@ use Rattle.battery.specs.Drive.{driveAll}
 use Rattle.battery.specs.declared.Van.{Van}
 use Rattle.battery.specs.declared.Drove.{Drove}
 use Rattle.battery.specs.declared.Drove.the-variants.{On, TooLow}
-use Rattle.network.proofs.Faults.{both-true, number-pos}
-use Rattle.network.specs.Check.{firstFrom, recordFault, recordsFault}
+use Rattle.refusals.proofs.Faults.{both-true, not-both}
+use Rattle.refusals.proofs.Early.{number-pos}
+use Rattle.refusals.specs.Order.{firstFrom}
+use Rattle.network.specs.Check.{roadFault, potentialFault, recordsFault}
 use Rattle.network.specs.Files.{isJunction}
-use Rattle.network.specs.Reasons.{Reason}
-use Rattle.network.specs.Walks.{roadsOf}
-use Rattle.network.specs.declared.Checked.the-variants.{Passed}
-use Rattle.network.specs.declared.Refusal.{Refusal}
-use Rattle.planner.proofs.OneOutcome.{not-both}
-use Rattle.planner.proofs.OnePlan.{one-plan}
-use Rattle.planner.specs.Given.{planNumbers}
-use Rattle.planner.specs.Order.{isBattery, isStart, planVan, planFault}
-use Rattle.planner.specs.Promises.{Arrives, Most, NoWalk, Plans}
-use Rattle.planner.specs.declared.Planned.the-variants as planned
-use Rattle.planner.specs.declared.PlanNumbers.{PlanNumbers}
-use Rattle.planner.specs.declared.PlanQuestion.{PlanQuestion}
+use Rattle.journeys.specs.Reasons.{Reason}
+use Rattle.journeys.specs.Walks.{roadsOf}
+use Rattle.refusals.specs.declared.Checked.the-variants.{Passed}
+use Rattle.refusals.specs.declared.Refusal.{Refusal}
+use Rattle.promises.proofs.OnePlan.{one-plan}
+use Rattle.promises.specs.Given.{planNumbers}
+use Rattle.promises.specs.Order.{isBattery, isStart, batteryOf, planVan, planFault}
+use Rattle.promises.specs.Promises.{Arrives, Most, NoWalk, Plans}
+use Rattle.promises.specs.declared.Planned.the-variants as planned
+use Rattle.promises.specs.declared.PlanNumbers.{PlanNumbers}
+use Rattle.promises.specs.declared.PlanQuestion.{PlanQuestion}
 use Rattle.hill.specs.Hill.{nodes, roads}
 use Rattle.hill.specs.Table.{Only, BestRow}
 use Rattle.hill.proofs.Walks.{once, Way, way}
@@ -41,15 +42,16 @@ clear q =
     && (isStart (q .battery) (q .start) && (isJunction nodes (q .source) && isJunction nodes (q .target)))
 
 records-pass : recordsFault nodes roads ≡ Passed
-unfolding firstFrom recordFault
+unfolding firstFrom roadFault potentialFault
 records-pass = refl
 
-plan-passes : (q : PlanQuestion) (list : List ℕ) → clear q ≡ true → 3 ≤ length list → planFault nodes roads q list ≡ Passed
+plan-passes : (q : PlanQuestion) (list : List ℕ) → clear q ≡ true → 3 ≤ length list → planFault nodes roads q (length list) ≡ Passed
 unfolding planFault
 plan-passes q list c h =
     let a = both-true (isBattery (q .battery)) _ c in
     let b = both-true (isStart (q .battery) (q .start)) _ (a .1) in
-    simp (a .0, b .0, b .1, le-leb 3 (length list) h, records-pass)
+    let j = both-true (isJunction nodes (q .source)) _ (b .1) in
+    simp (a .0, b .0, j .0, j .1, le-leb 3 (length list) h, records-pass)
 
 -- ---- a row with a route
 
@@ -123,7 +125,7 @@ module _ {q : PlanQuestion} {best : List ℕ} {v : Van} (b : BestBy q best v) wh
 
 pub none-only : (q : PlanQuestion) → clear q ≡ true
     → ((ks : List ℕ) → Way (q .source) ks (q .target) → driveAll (planVan q) (roadsOf roads ks) ≡ TooLow)
-    → (r : Refusal) → Reason (draw (q .battery)) roads (q .source) (q .target) r
+    → (r : Refusal) → Reason (batteryOf (q .battery)) roads (q .source) (q .target) r
     → (list : List ℕ) → 3 ≤ length list → Only q list (planNumbers (planned.Refused r)) list
 none-only q c low r why list h = record { allowed = given; only = only }
   where

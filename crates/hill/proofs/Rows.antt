@@ -14,21 +14,22 @@ use Rattle.battery.specs.declared.Profile.{Profile}
 use Rattle.battery.specs.declared.Passage.the-variants.{Passable}
 use Rattle.battery.specs.declared.Van.{Van}
 use Rattle.battery.specs.declared.Drove.the-variants.{On, TooLow}
-use Rattle.network.specs.Check.{firstFrom, recordFault}
-use Rattle.network.specs.Reasons.{Reason, more-charge, never-enough, not-joined}
-use Rattle.network.specs.Refusals.{numberOf, placeOf}
-use Rattle.network.specs.Walks.{Walk, roadsOf}
-use Rattle.network.specs.declared.Checked.the-variants.{Passed}
-use Rattle.network.specs.declared.Refusal.{Refusal}
-use Rattle.network.specs.declared.Refusal.the-variants.{NotJoined}
+use Rattle.refusals.specs.Order.{firstFrom}
+use Rattle.network.specs.Check.{roadFault, potentialFault}
+use Rattle.journeys.specs.Reasons.{Reason, more-charge, never-enough, not-joined}
+use Rattle.refusals.specs.Refusals.{numberOf, placeOf}
+use Rattle.journeys.specs.Walks.{Walk, roadsOf}
+use Rattle.refusals.specs.declared.Checked.the-variants.{Passed}
+use Rattle.refusals.specs.declared.Refusal.{Refusal}
+use Rattle.refusals.specs.declared.Refusal.the-variants.{NotJoined}
 use Rattle.routes.specs.Places.{placeFault}
 use Rattle.routes.specs.declared.Driven.the-variants as route
 use Rattle.walks.specs.Walk.{stay}
-use Rattle.planner.specs.Given.{driveNumbers}
-use Rattle.planner.specs.Order.{vanOf, planVan, driveFault, profileFault}
-use Rattle.planner.specs.Promises.{Drives, Profiles}
-use Rattle.planner.specs.declared.DriveQuestion.{DriveQuestion}
-use Rattle.hill.specs.Hill.{nodes, roads, asks}
+use Rattle.promises.specs.Given.{driveNumbers}
+use Rattle.promises.specs.Order.{vanOf, planVan, driveFault, profileFault}
+use Rattle.promises.specs.Promises.{Drives, Profiles}
+use Rattle.promises.specs.declared.DriveQuestion.{DriveQuestion}
+use Rattle.hill.specs.Hill.{nodes, roads, sized, asks}
 use Rattle.hill.specs.Table.{Row, DriveRow, Says, TableHolds, OneMoreBrings301}
 use Rattle.hill.proofs.Outcomes.{clear, Short, Else, BestBy, best-row, best-arrival, none-only}
 use Rattle.hill.proofs.Charges.{charges}
@@ -48,7 +49,7 @@ module _ {m b s t : ℕ} {one other : List ℕ} (two : Two s t one other) where
         others = two (Else (asks m b s t) one (v .charge)) (inl refl) (inr h);
       }
 
-  neither : {r : Refusal} → Reason m roads s t r → clear (asks m b s t) ≡ true
+  neither : {r : Refusal} → Reason (sized m) roads s t r → clear (asks m b s t) ≡ true
       → driveAll (planVan (asks m b s t)) (roadsOf roads one) ≡ TooLow
       → driveAll (planVan (asks m b s t)) (roadsOf roads other) ≡ TooLow
       → Says (Row.no-route m b s t (numberOf r) (placeOf r))
@@ -79,7 +80,7 @@ drive-row {v} e d a x =
 
 profile-row : {m s : ℕ} {ks : List ℕ} {p : Profile} {n t : ℕ} {z : ℤ}
     → profileFault nodes roads (record { battery = pos m; source = s }) ks ≡ Passed
-    → profileOf m (roadsOf roads ks) ≡ Passable p → p .need ≡ n → p .sum ≡ z → p .top ≡ t
+    → profileOf (sized m) (roadsOf roads ks) ≡ Passable p → p .need ≡ n → p .sum ≡ z → p .top ≡ t
     → Says (Row.profile m s ks n z t)
 profile-row {m} {s} {ks} {p} e f n z t =
     subst (Profiles nodes roads (record { battery = pos m; source = s }) ks)
@@ -90,7 +91,7 @@ profile-row {m} {s} {ks} {p} e f n z t =
 -- row by row in the table's order. What is worked out: the tests, the drive by the walk named, and that the other walk falls
 -- short
 pub table-holds : TableHolds
-unfolding driveAll drive driven driveFault profileFault firstFrom recordFault placeFault profileOf followedBy oneRoad
+unfolding driveAll drive driven driveFault profileFault firstFrom roadFault potentialFault placeFault profileOf followedBy oneRoad
 table-holds = (
   best-row (better to-3 hill-3 refl refl tt) refl,
   (

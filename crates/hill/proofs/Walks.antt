@@ -5,7 +5,7 @@ use mathlib.Core.List.{List, [], _∷_}
 use Prim.Native.Nat.{ℕ, zero, suc, _<_}
 use native.Mathlib.Omega.{arith}
 use Rattle.network.specs.Files.{roadCount, roadOf}
-use Rattle.network.specs.Walks.{roadsIn, Walk, Once}
+use Rattle.journeys.specs.Walks.{roadsIn, Walk, Once}
 use Rattle.walks.proofs.Stops.{rising-once, walk-rising}
 use Rattle.walks.specs.Walk.{stay, go}
 use Rattle.hill.specs.Hill.{roads}

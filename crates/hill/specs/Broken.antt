@@ -7,14 +7,15 @@ use Prim.Native.Nat.{ℕ, _≤_}
 use lib.IntN.{ℤ, pos, _-ℤ_}
 use lib.ListN.{length, take, drop}
 use Rattle.battery.specs.Rule.{chargeAfter}
+use Rattle.battery.specs.declared.Battery.{Battery}
 use Rattle.battery.specs.declared.Road.{Road}
-use Rattle.network.specs.Walks.{roadsOf, sumOf}
-use Rattle.network.specs.declared.Refusal.{Refusal}
-use Rattle.planner.specs.Given.{planNumbers}
-use Rattle.planner.specs.Promises.{Plans}
-use Rattle.planner.specs.declared.Planned.the-variants as planned
-use Rattle.planner.specs.declared.PlanNumbers.{PlanNumbers}
-use Rattle.hill.specs.Hill.{nodes, roads, asks}
+use Rattle.journeys.specs.Walks.{roadsOf, sumOf}
+use Rattle.refusals.specs.declared.Refusal.{Refusal}
+use Rattle.promises.specs.Given.{planNumbers}
+use Rattle.promises.specs.Promises.{Plans}
+use Rattle.promises.specs.declared.Planned.the-variants as planned
+use Rattle.promises.specs.declared.PlanNumbers.{PlanNumbers}
+use Rattle.hill.specs.Hill.{nodes, roads, sized, asks}
 
 -- refuses all queries: start 900 from 0 to 3 has a route
 abbrev pub RefusesAll : Type 0
@@ -36,16 +37,16 @@ NeverWrites =
     → Plans nodes roads (asks 1000 900 0 3) list a list → ⊥
 
 -- the rule applied to the first road, and only subtracted afterwards
-abbrev pub onlySubtracts : ℕ → ℕ → List Road → ℤ
-onlySubtracts M b [] = pos b
-onlySubtracts M b (r ∷ rs) = pos (chargeAfter M b (r .consumption)) -ℤ sumOf rs
+abbrev pub onlySubtracts : Battery → ℕ → List Road → ℤ
+onlySubtracts B b [] = pos b
+onlySubtracts B b (r ∷ rs) = pos (chargeAfter B b r) -ℤ sumOf rs
 
 -- reports that for the route ks which it gives: start 900 from 0 to 3, where it would be 200
 abbrev pub OnlySubtracts : Type 0
 OnlySubtracts =
     (list : List ℕ) (a : PlanNumbers) (ks : List ℕ) → 3 ≤ length list
     → Plans nodes roads (asks 1000 900 0 3) list a (ks ++ drop (length ks) list) → a .roads ≡ length ks
-    → pos (a .arrival) ≡ onlySubtracts 1000 900 (roadsOf roads ks) → ⊥
+    → pos (a .arrival) ≡ onlySubtracts (sized 1000) 900 (roadsOf roads ks) → ⊥
 
 -- invents the spilled total: start 900 from 0 to 3, where the drive spills 100
 abbrev pub InventsSpill : Type 0

@@ -1,18 +1,18 @@
 -- Request [1] on network H, worked by hand: the number of each junction, 0 to 3.
 use Prim.Native.Nat.{ℕ}
 use lib.IntN.{ℤ, pos, negsuc}
-use Rattle.network.specs.SetOff.{SetOff}
-use Rattle.hill.specs.Hill.{roads}
+use Rattle.journeys.specs.SetOff.{SetOff}
+use Rattle.hill.specs.Hill.{roads, sized}
 
 -- no charge does
 abbrev pub none : ℤ
 none = negsuc 0
 
 pub record Numbers (battery depot : ℕ) (a b c d : ℤ) : Type 0 where
-  pub at-0 : SetOff battery roads 0 depot a
-  pub at-1 : SetOff battery roads 1 depot b
-  pub at-2 : SetOff battery roads 2 depot c
-  pub at-3 : SetOff battery roads 3 depot d
+  pub at-0 : SetOff (sized battery) roads 0 depot a
+  pub at-1 : SetOff (sized battery) roads 1 depot b
+  pub at-2 : SetOff (sized battery) roads 2 depot c
+  pub at-3 : SetOff (sized battery) roads 3 depot d
 
 -- to 3: road 3 needs 900, of which road 1 gives 500, before which road 0 takes 300. To 2: by road 2 with 100; from 1 nothing is
 -- needed. No road leads to 0. At 900 road 3 needs exactly a full battery, at 899 more than that

@@ -2,7 +2,8 @@
 use mathlib.Core.List.{List, [], _∷_}
 use Prim.Native.Nat.{ℕ}
 use lib.IntN.{pos}
-use Rattle.planner.specs.declared.PlanQuestion.{PlanQuestion}
+use Rattle.battery.specs.declared.Battery.{Battery}
+use Rattle.promises.specs.declared.PlanQuestion.{PlanQuestion}
 
 -- potentials −200, −500, 0, 0
 abbrev pub nodes : List ℕ
@@ -19,6 +20,10 @@ roads =
     1 ∷ 0 ∷ 2 ∷ 0 ∷ 12 ∷ 254 ∷ 255 ∷ 255 ∷
     0 ∷ 0 ∷ 2 ∷ 0 ∷ 100 ∷ 0 ∷ 0 ∷ 0 ∷
     2 ∷ 0 ∷ 3 ∷ 0 ∷ 132 ∷ 3 ∷ 0 ∷ 0 ∷ []
+
+-- a battery of this size
+abbrev pub sized : ℕ → Battery
+sized m = record { size = m }
 
 -- battery size, start charge, source, target
 abbrev pub asks : ℕ → ℕ → ℕ → ℕ → PlanQuestion

@@ -5,11 +5,11 @@ use mathlib.Core.List.{List, [], _∷_, _++_}
 use Prim.Native.Nat.{ℕ, _+_, _≤_}
 use lib.IntN.{ℤ, pos}
 use lib.ListN.{length, drop}
-use Rattle.planner.specs.Promises.{Plans, Drives, Profiles}
-use Rattle.planner.specs.declared.PlanNumbers.{PlanNumbers}
-use Rattle.planner.specs.declared.PlanQuestion.{PlanQuestion}
-use Rattle.planner.specs.declared.DriveNumbers.{DriveNumbers}
-use Rattle.planner.specs.declared.DriveQuestion.{DriveQuestion}
+use Rattle.promises.specs.Promises.{Plans, Drives, Profiles}
+use Rattle.promises.specs.declared.PlanNumbers.{PlanNumbers}
+use Rattle.promises.specs.declared.PlanQuestion.{PlanQuestion}
+use Rattle.promises.specs.declared.DriveNumbers.{DriveNumbers}
+use Rattle.promises.specs.declared.DriveQuestion.{DriveQuestion}
 use Rattle.hill.specs.Hill.{nodes, roads, asks}
 
 -- what is asked and what is given

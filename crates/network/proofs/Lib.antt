@@ -1,5 +1,2 @@
-pub mod Faults
+pub mod Passes
 pub mod Records
-pub mod Closed
-pub mod SetOff
-pub mod Reasons

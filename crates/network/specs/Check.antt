@@ -1,50 +1,35 @@
--- The order of refusals: the first test that fails gives its refusal.
-use mathlib.Core.Bool.{Bool, true, false, _&&_}
-use mathlib.Core.List.{List, [], _∷_, _++_}
-use Prim.Native.Nat.{ℕ, zero, suc, _+_}
+-- The tests of the two files and of their records, in order.
+use mathlib.Core.Bool.{_&&_}
+use mathlib.Core.List.{List}
+use Prim.Native.Nat.{ℕ}
+use lib.Dec.{ltb}
 use Rattle.battery.specs.declared.Road.{Road}
-use Rattle.network.specs.Files.{roadCount, roadOf, potential, junctionFile, roadFile, isJunction, inRange, passes}
-use Rattle.network.specs.declared.Refusal.{Refusal}
-use Rattle.network.specs.declared.Refusal.the-variants.{JunctionFile, RoadFile, Ends, Consumption, Potential}
-use Rattle.network.specs.declared.Checked.{Checked}
-use Rattle.network.specs.declared.Checked.the-variants.{Passed, Refused}
+use Rattle.refusals.specs.Order.{unless, first, firstFrom}
+use Rattle.refusals.specs.declared.Refusal.the-variants.{JunctionFile, RoadFile, Ends, Consumption, Potential}
+use Rattle.refusals.specs.declared.Checked.{Checked}
+use Rattle.network.specs.Files.{junctions, roadCount, roadOf, potential, junctionFile, roadFile, inRange, passes}
 
--- refused with r unless the test holds
-abbrev pub unless : Bool → Refusal → Checked
-unless true r = Passed
-unless false r = Refused r
+-- 1, 2: the sizes of the two files
+abbrev pub filesFault : List ℕ → List ℕ → Checked
+filesFault ns rs = first (unless (junctionFile ns) JunctionFile) (unless (roadFile rs) RoadFile)
 
--- the first of two faults
-abbrev pub first : Checked → Checked → Checked
-first Passed b = b
-first (Refused r) b = Refused r
+-- record k, where there are n junctions: 7, 8
+unfoldable pub roadFault : ℕ → ℕ → Road → Checked
+roadFault n k r =
+    first (unless (ltb (r .tail) n && ltb (r .head) n) (Ends k)) (unless (inRange (r .consumption)) (Consumption k))
 
--- the first fault of a list
-abbrev pub firstOf : List Checked → Checked
-firstOf [] = Passed
-firstOf (c ∷ cs) = first c (firstOf cs)
+-- record k, whose ends are junctions: 9
+unfoldable pub potentialFault : List ℕ → ℕ → Road → Checked
+potentialFault ns k r = unless (passes (r .consumption) (potential ns (r .tail)) (potential ns (r .head))) (Potential k)
 
--- the first fault of n places from place k on
-unfoldable pub firstFrom : (ℕ → Checked) → ℕ → ℕ → Checked
-firstFrom f zero k = Passed
-firstFrom f (suc n) k = first (f k) (firstFrom f n (k + 1))
-
--- record k, tested for 7, 8, 9
-unfoldable pub recordFault : List ℕ → ℕ → Road → Checked
-recordFault ns k r =
-    firstOf
-    (unless (isJunction ns (r .tail) && isJunction ns (r .head)) (Ends k) ∷
-    unless (inRange (r .consumption)) (Consumption k) ∷
-    unless (passes (r .consumption) (potential ns (r .tail)) (potential ns (r .head))) (Potential k) ∷ [])
+-- record k: 7, 8, 9
+abbrev pub recordFault : List ℕ → ℕ → Road → Checked
+recordFault ns k r = first (roadFault (junctions ns) k r) (potentialFault ns k r)
 
 -- all records in file order; the first that fails stops the check
 abbrev pub recordsFault : List ℕ → List ℕ → Checked
 recordsFault ns rs = firstFrom (λ k. recordFault ns k (roadOf rs k)) (roadCount rs) 0
 
--- 1, 2: the sizes of the two files
-abbrev pub fileTests : List ℕ → List ℕ → List Checked
-fileTests ns rs = unless (junctionFile ns) JunctionFile ∷ unless (roadFile rs) RoadFile ∷ []
-
 -- network check: 1, 2, then the records
 unfoldable pub checkFault : List ℕ → List ℕ → Checked
-checkFault ns rs = firstOf (fileTests ns rs ++ (recordsFault ns rs ∷ []))
+checkFault ns rs = first (filesFault ns rs) (recordsFault ns rs)

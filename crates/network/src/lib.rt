@@ -4,9 +4,10 @@ ghost use mathlib.Core.Path.{_≡_};
 ghost use Prim.Native.Nat.{_<_};
 ghost use lib.IntN.{_-ℤ_, _+ℤ_};
 ghost use Rattle.network.specs.Files.{junctions, roadCount, roadOf, potential, junctionFile, roadFile, inRange, passes};
-ghost use Rattle.network.specs.Refusals.{numberOf, placeOf};
-ghost use Rattle.network.specs.Check.{firstOf, fileTests, recordFault, recordsFault, checkFault};
+ghost use Rattle.network.specs.Check.{filesFault, roadFault, potentialFault, recordFault, recordsFault, checkFault};
 use battery::Road;
+use refusals::Checked;
+use refusals::Refusal;
 
 // The records of the two files, and how many there may be.
 pub const JUNCTION_BYTES: usize = 4;
@@ -16,84 +17,6 @@ pub const ROAD_BYTES: usize = 8;
 pub const MOST_JUNCTIONS: usize = 2048;
 
 pub const MOST_ROADS: usize = 8192;
-
-// Why a question is refused: 1 to 15 in document 01's order, then request [2]'s 16 and 17. A number
-// is the record, the least start charge or the place in the route.
-pub enum Refusal {
-    JunctionFile,
-    RoadFile,
-    Battery,
-    Start,
-    NoJunction,
-    ShortList,
-    Ends(usize),
-    Consumption(usize),
-    Potential(usize),
-    MoreCharge(u32),
-    LongRoute,
-    NotRoad(usize),
-    NotHere(usize),
-    TooLow(usize),
-    Impassable(usize),
-    NeverEnough,
-    NotJoined,
-}
-
-// What a check comes to.
-pub enum Checked {
-    Passed,
-    Refused(Refusal),
-}
-
-// Document 01's number of a refusal.
-pub fn number(r: Refusal) -> u64
-    ensures { λ n. ⌜ n ≡ numberOf r ⌝ }
-{
-    match r {
-        Refusal::JunctionFile => 1,
-        Refusal::RoadFile => 2,
-        Refusal::Battery => 3,
-        Refusal::Start => 4,
-        Refusal::NoJunction => 5,
-        Refusal::ShortList => 6,
-        Refusal::Ends(_) => 7,
-        Refusal::Consumption(_) => 8,
-        Refusal::Potential(_) => 9,
-        Refusal::MoreCharge(_) => 10,
-        Refusal::LongRoute => 11,
-        Refusal::NotRoad(_) => 12,
-        Refusal::NotHere(_) => 13,
-        Refusal::TooLow(_) => 14,
-        Refusal::Impassable(_) => 15,
-        Refusal::NeverEnough => 16,
-        Refusal::NotJoined => 17,
-    }
-}
-
-// The place of the first fault, and of 10 the least start charge.
-pub fn place(r: Refusal) -> u64
-    ensures { λ n. ⌜ n ≡ placeOf r ⌝ }
-{
-    match r {
-        Refusal::JunctionFile => 0,
-        Refusal::RoadFile => 0,
-        Refusal::Battery => 0,
-        Refusal::Start => 0,
-        Refusal::NoJunction => 0,
-        Refusal::ShortList => 0,
-        Refusal::Ends(k) => k as u64,
-        Refusal::Consumption(k) => k as u64,
-        Refusal::Potential(k) => k as u64,
-        Refusal::MoreCharge(b) => b as u64,
-        Refusal::LongRoute => 0,
-        Refusal::NotRoad(i) => i as u64,
-        Refusal::NotHere(i) => i as u64,
-        Refusal::TooLow(i) => i as u64,
-        Refusal::Impassable(i) => i as u64,
-        Refusal::NeverEnough => 0,
-        Refusal::NotJoined => 0,
-    }
-}
 
 // Network check: 1, 2, then the records.
 pub fn check(nodes: &[u8], roads: &[u8]) -> Checked
@@ -108,15 +31,11 @@ pub fn check(nodes: &[u8], roads: &[u8]) -> Checked
 
 // The sizes of the two files: 1, 2.
 pub fn check_files(nodes: &[u8], roads: &[u8]) -> Checked
-    ensures { λ r. ⌜ r ≡ firstOf (fileTests (now (nodes .entry)) (now (roads .entry))) ⌝ }
+    ensures { λ r. ⌜ r ≡ filesFault (now (nodes .entry)) (now (roads .entry)) ⌝ }
 {
-    if !is_junction_file(nodes) {
-        return Checked::Refused(Refusal::JunctionFile);
-    }
-    if !is_road_file(roads) {
-        return Checked::Refused(Refusal::RoadFile);
-    }
-    Checked::Passed
+    let junctions = refusals::unless(is_junction_file(nodes), Refusal::JunctionFile);
+    let records = refusals::unless(is_road_file(roads), Refusal::RoadFile);
+    refusals::first(junctions, records)
 }
 
 // 1 to 2,048 whole records.
@@ -177,21 +96,37 @@ pub fn road_at(roads: &[u8], k: usize) -> Road
 fn check_record(nodes: &[u8], k: usize, road: Road) -> Checked
     ensures { λ r. ⌜ r ≡ recordFault (now (nodes .entry)) k road ⌝ }
 {
-    let count = nodes.len() / JUNCTION_BYTES;
-    let tail = road.tail as usize;
-    let head = road.head as usize;
-    if count <= tail {
+    let checked = check_road(nodes.len() / JUNCTION_BYTES, k, road);
+    if let Checked::Refused(r) = checked {
+        return Checked::Refused(r);
+    }
+    check_potential(nodes, k, road)
+}
+
+// Record k's ends among `count` junctions, and its consumption: 7, 8.
+pub fn check_road(count: usize, k: usize, road: Road) -> Checked
+    ensures { λ r. ⌜ r ≡ roadFault count k road ⌝ }
+{
+    if count <= road.tail as usize {
         return Checked::Refused(Refusal::Ends(k));
     }
-    if count <= head {
+    if count <= road.head as usize {
         return Checked::Refused(Refusal::Ends(k));
     }
     if !in_range(road.consumption) {
         return Checked::Refused(Refusal::Consumption(k));
     }
-    let at_tail = potential_at(nodes, tail);
-    let at_head = potential_at(nodes, head);
-    if !road_passes(road.consumption, at_tail, at_head) {
+    Checked::Passed
+}
+
+// Record k's sum after potentials: 9.
+pub fn check_potential(nodes: &[u8], k: usize, road: Road) -> Checked
+    requires { ⌜ (road .tail < junctions (now nodes)) × (road .head < junctions (now nodes)) ⌝ }
+    ensures { λ r. ⌜ r ≡ potentialFault (now (nodes .entry)) k road ⌝ }
+{
+    let tail = potential_at(nodes, road.tail as usize);
+    let head = potential_at(nodes, road.head as usize);
+    if !road_passes(road.consumption, tail, head) {
         return Checked::Refused(Refusal::Potential(k));
     }
     Checked::Passed

@@ -1,54 +1,50 @@
 // The cab program: one line on standard input, nodes.bin and roads.bin from the current folder, the
-// answer on standard output. What is written is decided by `respond` and `without_files`.
-ghost use Prim.Native.Nat.{_≤_};
-ghost use lib.ListN.{length, take};
+// answer on standard output. What is written is decided by `respond`.
+ghost use mathlib.Core.Path.{_≡_};
+ghost use lib.ListN.{take};
 ghost use Rattle.io.specs.Counts.{Counts};
+ghost use Rattle.programs.specs.Program.{Responds};
+ghost use Rattle.programs.specs.Shared.{Small, Lent};
 ghost use Rattle.text.specs.Answer.{mostRoute};
-ghost use Rattle.text.specs.Writing.{mostRefusal, routeRoom};
-ghost use Rattle.plan.specs.Response.{Responds, WithoutFiles};
-use inputs::NODES_ROOM;
-use inputs::ROADS_ROOM;
+ghost use Rattle.text.specs.Room.{routeRoom};
+ghost use Rattle.plan.specs.Response.{question, planProgram};
 use libc::STDOUT_FILENO;
-use lines::Asked;
-use planner::Planned;
+use programs::Begun;
+use programs::MOST_NUMBER;
+use programs::NODES_ROOM;
+use programs::ROADS_ROOM;
+use promises::PlanQuestion;
+use promises::Planned;
 use text::MOST_ROUTE;
 
-// The longest query line: four numbers, each with the byte after it.
-const MOST_LINE: usize = 4 * (lines::MOST_DIGITS + 1);
+// The numbers of the line: battery, start, source, target.
+const NUMBERS: usize = 4;
 
 fn main() {
-    let mut line = [0u8; MOST_LINE];
+    let mut line = [0u8; NUMBERS * MOST_NUMBER];
     let mut nodes = [0u8; NODES_ROOM];
     let mut roads = [0u8; ROADS_ROOM];
-    let n = inputs::read_line(&mut line);
-    let first = inputs::read_file(b"nodes.bin", &mut nodes);
-    let second = inputs::read_file(b"roads.bin", &mut roads);
-    let a = first.count;
-    let b = second.count;
-    if first.ok && second.ok {
-        let k = respond(&line[..n], &nodes[..a], &mut roads, b);
-        io::write_all(STDOUT_FILENO, &roads[..k]);
-    } else {
-        let k = without_files(&line[..n], &mut roads);
-        io::write_all(STDOUT_FILENO, &roads[..k]);
-    }
+    let read = programs::read_inputs(&mut line, &mut nodes, &mut roads);
+    let n = read.line;
+    let a = read.nodes;
+    let count = respond(&line[..n], read.files, &nodes[..a], &mut roads, read.roads);
+    io::write_all(STDOUT_FILENO, &roads[..count]);
 }
 
-// What is written once both files are read: how many bytes at the start of `roads`. The file of the
-// roads is its first `size` bytes; once there is an answer it is not read again, and the answer is
-// written over it.
-fn respond(line: &[u8], nodes: &[u8], roads: &mut [u8], size: usize) -> usize
-    requires { ⌜ Counts size (now roads) ⌝ }
-    requires { ⌜ routeRoom mostRoute ≤ length (now roads) ⌝ }
+// What is written: how many bytes at the start of `roads`. The file of the roads is its first `size`
+// bytes; once there is an answer it is not read again, and the answer is written over it.
+fn respond(line: &[u8], files: bool, nodes: &[u8], roads: &mut [u8], size: usize) -> usize
+    requires { ⌜ Lent (routeRoom mostRoute) size (now roads) ⌝ }
     ensures { λ r. ⌜ Counts r (now (roads .exit)) ⌝ }
-    ensures { λ r. ⌜ Responds (now (line .entry)) (now (nodes .entry)) (take size (now (roads .entry))) (take r (now (roads .exit))) ⌝ }
+    ensures { λ r. ⌜ Responds planProgram (now (line .entry)) files (now (nodes .entry)) (take size (now (roads .entry))) (take r (now (roads .exit))) ⌝ }
 {
-    let asked = lines::read_query(line);
-    let Asked::Query(question) = asked else {
-        return text::write_bad_query(roads);
-    };
+    let mut numbers = [0u64; NUMBERS];
+    let begun = programs::begin(line, files, &mut numbers, roads);
+    if let Begun::Written(count) = begun {
+        return count;
+    }
     let mut list = [0u16; MOST_ROUTE];
-    let answer = planner::best_route(nodes, &roads[..size], question, &mut list);
+    let answer = planner::best_route(nodes, &roads[..size], asked(&numbers), &mut list);
     let given = planner::plan_numbers(answer);
     let Planned::Route(count, _) = answer else {
         return text::write_refusal(roads, given.number, given.place);
@@ -56,15 +52,15 @@ fn respond(line: &[u8], nodes: &[u8], roads: &mut [u8], size: usize) -> usize
     text::write_route(roads, given, &list[..count])
 }
 
-// What is written where a file cannot be opened or read.
-fn without_files(line: &[u8], out: &mut [u8]) -> usize
-    requires { ⌜ mostRefusal ≤ length (now out) ⌝ }
-    ensures { λ r. ⌜ Counts r (now (out .exit)) ⌝ }
-    ensures { λ r. ⌜ WithoutFiles (now (line .entry)) (take r (now (out .exit))) ⌝ }
+// What the line asks.
+fn asked(numbers: &[u64; NUMBERS]) -> PlanQuestion
+    requires { ⌜ Small (now numbers) ⌝ }
+    ensures { λ r. ⌜ r ≡ question (now (numbers .entry)) ⌝ }
 {
-    let asked = lines::read_query(line);
-    match asked {
-        Asked::Query(_) => text::write_no_file(out),
-        Asked::Bad => text::write_bad_query(out),
+    PlanQuestion {
+        battery: numbers[0] as i64,
+        start: numbers[1] as i64,
+        source: numbers[2],
+        target: numbers[3],
     }
 }

@@ -11,34 +11,36 @@ use Rattle.battery.specs.declared.Drove.{Drove}
 use Rattle.battery.specs.declared.Drove.the-variants.{On, TooLow}
 use Rattle.battery.specs.declared.Van.{Van}
 use Rattle.network.specs.Files.{junctions}
-use Rattle.network.specs.Walks.{Once, roadsOf}
-use Rattle.network.specs.declared.Checked.the-variants as checked
-use Rattle.network.specs.declared.Refusal.{Refusal}
+use Rattle.journeys.specs.Walks.{Once, roadsOf}
+use Rattle.refusals.specs.declared.Checked.the-variants as checked
+use Rattle.refusals.specs.declared.Refusal.{Refusal}
 use Rattle.routes.proofs.Exactly.{driven-exactly}
 use Rattle.routes.specs.Steps.{DriveAsks}
 use Rattle.walks.specs.Label.{after}
-use Rattle.search.proofs.Forward.{label, label-after}
-use Rattle.search.specs.Reading.{forward, net}
+use Rattle.reading.proofs.Forward.{label, label-after}
+use Rattle.reading.specs.Reading.{forward, net}
 use Rattle.search.specs.declared.Trip.{Trip}
 use Rattle.trips.specs.Found.{BestOf, Finds, nowhere, route}
 use Rattle.trips.specs.Asks.{FindAsks}
 use Rattle.trips.specs.declared.Found.{Found}
 use Rattle.trips.specs.declared.Found.the-variants.{Nowhere, Roads}
-use Rattle.planner.specs.Given.{planNumbers}
-use Rattle.planner.specs.Order.{planVan, planFault}
+use Rattle.promises.specs.Given.{planNumbers}
+use Rattle.promises.specs.Order.{batteryOf, planVan, planFault}
 use Rattle.planner.specs.Planning.{FoundAsks, FoundKeeps}
-use Rattle.planner.specs.Promises.{Arrives, Most, Plans}
-use Rattle.planner.specs.declared.Planned.{Planned}
-use Rattle.planner.specs.declared.Planned.the-variants as planned
-use Rattle.planner.specs.declared.PlanQuestion.{PlanQuestion}
-use Rattle.planner.proofs.Cleared.{battery-whole, start-whole, sets-out, PlanCleared, plan-cleared}
+use Rattle.promises.specs.Promises.{Arrives, Most, Plans}
+use Rattle.promises.specs.declared.Planned.{Planned}
+use Rattle.promises.specs.declared.Planned.the-variants as planned
+use Rattle.promises.specs.declared.PlanQuestion.{PlanQuestion}
+use Rattle.promises.proofs.Passed.{battery-whole, start-whole, plan-passed}
+use Rattle.promises.specs.Passed.{PlanPassed}
+use Rattle.planner.proofs.Entries.{sets-out}
 
 -- the trip that is searched: the label is the charge of the van that sets out, plus one
 abbrev pub tripFor : PlanQuestion → Van → Trip
 tripFor q v = record { source = q .source; label = v .charge + 1; target = q .target }
 
-pub find-asks : (ns rs : List ℕ) (q : PlanQuestion) (list : List ℕ) → PlanCleared ns rs q list
-    → FindAsks (draw (q .battery)) ns rs (tripFor q (planVan q)) list
+pub find-asks : (ns rs : List ℕ) (q : PlanQuestion) (list : List ℕ) → PlanPassed ns rs q (length list)
+    → FindAsks (batteryOf (q .battery)) ns rs (tripFor q (planVan q)) list
 find-asks ns rs q list c =
     let s = start-whole (q .battery) (q .start) (c .battery-ok) (c .start-ok) in
     record {
@@ -47,9 +49,9 @@ find-asks ns rs q list c =
             readable =
                 record {
                   battery-le = battery-whole (q .battery) (c .battery-ok) .draw-le;
-                  few = c .few;
-                  few-roads = c .few-roads;
-                  checked = c .records-ok;
+                  few = c .files .few;
+                  few-roads = c .files .few-roads;
+                  checked = c .files .records-ok;
                 };
             source-in = c .source-in;
             some = omega arith;
@@ -72,26 +74,26 @@ arrived TooLow h = absurd (omega arith)
 module _ (rs : List ℕ) (q : PlanQuestion) where
   -- the label that a walk brings
   brings : List ℕ → ℕ
-  brings ks = after (net (forward (draw (q .battery))) rs) ks (draw (q .start) + 1)
+  brings ks = after (net (forward (batteryOf (q .battery))) rs) ks (draw (q .start) + 1)
 
   brings-is : (ks : List ℕ) → brings ks ≡ label (driveAll (planVan q) (roadsOf rs ks))
   unfolding brings
   brings-is ks =
       let e : draw (q .start) + 1 ≡ suc (draw (q .start)) = omega arith in
-      ap (after (net (forward (draw (q .battery))) rs) ks) e ∙ label-after (draw (q .battery)) (draw (q .start)) rs ks
+      ap (after (net (forward (batteryOf (q .battery))) rs) ks) e ∙ label-after (batteryOf (q .battery)) (draw (q .start)) rs ks
 
   brings-on : (ks : List ℕ) (v : Van) → Arrives rs q ks v → brings ks ≡ suc (v .charge)
   brings-on ks v a = brings-is ks ∙ ap label (a .drives)
 
   -- no walk brings more than the best label
-  bound : (x : ℕ) → BestOf (draw (q .battery)) rs (tripFor q (planVan q)) x
+  bound : (x : ℕ) → BestOf (batteryOf (q .battery)) rs (tripFor q (planVan q)) x
       → (ks : List ℕ) (v : Van) → Arrives rs q ks v → suc (v .charge) ≤ x
   unfolding net brings
   bound x b ks v a = omega (arith, brings-on ks v a, b .most ks (a .walk))
 
 -- ---- what the search found
 
-module _ (ns rs : List ℕ) (q : PlanQuestion) (list : List ℕ) (passed : planFault ns rs q list ≡ checked.Passed) where
+module _ (ns rs : List ℕ) (q : PlanQuestion) (list : List ℕ) (passed : planFault ns rs q (length list) ≡ checked.Passed) where
   -- no route
   pub plans-none : (r : Refusal) (list' : List ℕ) → FindsFor ns rs q (planVan q) list (Nowhere r) list'
       → Plans ns rs q list (planNumbers (planned.Refused r)) list'
@@ -127,7 +129,7 @@ best-walk ns rs q list count list' (route ks few walk once some best) =
       list-is = refl;
     }
 
-module _ (ns rs : List ℕ) (q : PlanQuestion) (list : List ℕ) (passed : planFault ns rs q list ≡ checked.Passed)
+module _ (ns rs : List ℕ) (q : PlanQuestion) (list : List ℕ) (passed : planFault ns rs q (length list) ≡ checked.Passed)
     (count : ℕ) (list' : List ℕ) (w : BestWalk ns rs q list count list') where
   pub count-le : count ≤ length list'
   count-le = omega (arith, w .count-is, ap length (w .list-is), length-append (w .by) (drop (length (w .by)) list))
@@ -138,9 +140,9 @@ module _ (ns rs : List ℕ) (q : PlanQuestion) (list : List ℕ) (passed : planF
 
   asks : DriveAsks rs (w .by) (planVan q)
   asks =
-      let c = plan-cleared ns rs q list passed in
+      let c = plan-passed ns rs q (length list) passed in
       sets-out ns rs (w .by) (q .battery) (q .start)
-      (record { battery-ok = c .battery-ok; entries-le = omega (arith, w .few, c .few); records-ok = c .records-ok })
+      (record { files = c .files; battery-ok = c .battery-ok; entries-le = omega (arith, w .few, c .files .few) })
       (c .start-ok)
 
   pub found-asks : FoundAsks rs (take count list') (q .source) (planVan q)
@@ -149,7 +151,7 @@ module _ (ns rs : List ℕ) (q : PlanQuestion) (list : List ℕ) (passed : planF
       (record {
         asks = asks;
         faultless =
-            driven-exactly (draw (q .battery)) (draw (q .start)) rs (q .source) (w .by) .only
+            driven-exactly (batteryOf (q .battery)) (draw (q .start)) rs (q .source) (w .by) .only
             (record { target = q .target; walk = w .arrives .walk }) (record { van = w .van; drives = w .arrives .drives });
       })
 

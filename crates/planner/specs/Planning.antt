@@ -6,18 +6,18 @@ use lib.ListN.{length}
 use Rattle.battery.specs.Drive.{driveAll}
 use Rattle.battery.specs.declared.Van.{Van}
 use Rattle.battery.specs.declared.Drove.the-variants.{On}
-use Rattle.network.specs.Walks.{roadsOf}
-use Rattle.network.specs.declared.Checked.the-variants.{Passed}
+use Rattle.journeys.specs.Walks.{roadsOf}
+use Rattle.refusals.specs.declared.Checked.the-variants.{Passed}
 use Rattle.routes.specs.Places.{driveFaults}
 use Rattle.routes.specs.Steps.{DriveAsks}
-use Rattle.planner.specs.Order.{planVan, planFault}
-use Rattle.planner.specs.declared.Planned.{Planned}
-use Rattle.planner.specs.declared.Planned.the-variants as planned
-use Rattle.planner.specs.declared.PlanQuestion.{PlanQuestion}
+use Rattle.promises.specs.Order.{planVan, planFault}
+use Rattle.promises.specs.declared.Planned.{Planned}
+use Rattle.promises.specs.declared.Planned.the-variants as planned
+use Rattle.promises.specs.declared.PlanQuestion.{PlanQuestion}
 
 -- 1 to 9 have passed, and the van is the one that sets out
 pub record PlanAsks (ns rs : List ℕ) (q : PlanQuestion) (v : Van) (list : List ℕ) : Type 0 where
-  pub passed : planFault ns rs q list ≡ Passed
+  pub passed : planFault ns rs q (length list) ≡ Passed
   pub van-is : v ≡ planVan q
 
 -- a route that the van drives without a fault

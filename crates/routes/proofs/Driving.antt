@@ -7,14 +7,15 @@ use lib.ListN.{length, take}
 use Rattle.battery.proofs.Drive.{Went, went, drive-all-snoc}
 use Rattle.battery.specs.Drive.{drive, driveAll}
 use Rattle.battery.specs.Ready.{Ranged, Ready}
+use Rattle.battery.specs.declared.Battery.{Battery}
 use Rattle.battery.specs.declared.Road.{Road}
 use Rattle.battery.specs.declared.Van.{Van}
 use Rattle.battery.specs.declared.Drove.{Drove}
 use Rattle.battery.specs.declared.Drove.the-variants as drove
 use Rattle.network.specs.Files.{roadOf}
-use Rattle.network.specs.Walks.{roadsOf}
-use Rattle.network.specs.declared.Checked.{Checked}
-use Rattle.network.specs.declared.Checked.the-variants as checked
+use Rattle.journeys.specs.Walks.{roadsOf}
+use Rattle.refusals.specs.declared.Checked.{Checked}
+use Rattle.refusals.specs.declared.Checked.the-variants as checked
 use Rattle.routes.specs.Places.{entryAt, upTo, lowFault, driveFaults}
 use Rattle.routes.specs.Steps.{RangedRoads, Bounded, PlaceAsks, enters, onDrove, onEntered, drivePlace}
 use Rattle.routes.specs.declared.DriveStep.{DriveStep}
@@ -38,6 +39,7 @@ ready rs e i at p h =
 -- one road more
 bounded-on : (i : ℕ) (v w : Van) (r : Road) → Ranged r → Went v r w → Bounded i v → Bounded (i + 1) w
 bounded-on i v w r g t b =
+    let m = ap (λ (B : Battery). B .size) (t .battery-is) in
     record {
       battery-le = omega arith;
       charge-le = omega arith;

@@ -11,14 +11,14 @@ use Rattle.battery.specs.Drive.{driveAll, andThen}
 use Rattle.battery.specs.declared.Van.{Van}
 use Rattle.battery.specs.declared.Drove.{Drove}
 use Rattle.battery.specs.declared.Drove.the-variants as drove
-use Rattle.network.proofs.Faults.{from-found}
-use Rattle.network.specs.Check.{unless, first}
+use Rattle.refusals.proofs.Faults.{from-found}
+use Rattle.refusals.specs.Order.{unless, first}
 use Rattle.network.specs.Files.{roadCount, roadOf}
-use Rattle.network.specs.Refusals.{numberOf}
-use Rattle.network.specs.Walks.{roadsOf}
-use Rattle.network.specs.declared.Refusal.{Refusal}
-use Rattle.network.specs.declared.Refusal.the-variants as refusal
-use Rattle.network.specs.declared.Checked.the-variants as checked
+use Rattle.refusals.specs.Refusals.{numberOf}
+use Rattle.journeys.specs.Walks.{roadsOf}
+use Rattle.refusals.specs.declared.Refusal.{Refusal}
+use Rattle.refusals.specs.declared.Refusal.the-variants as refusal
+use Rattle.refusals.specs.declared.Checked.the-variants as checked
 use Rattle.routes.specs.Places.{entryAt, standsAt, upTo, placeFault, lowFault, driveFaults}
 use Rattle.routes.proofs.Places.{split}
 
@@ -26,7 +26,7 @@ clash : {X : Type 0} {r s : Refusal} → numberOf r ≡ 14 → (numberOf s ≡ 1
 clash {r} {s} n d e = let p : s ≡ r = cc in absurd (d (ap numberOf p ∙ n))
 
 -- 14 is the fault of the charge
-low-drove : (i : ℕ) (d : Drove) {r : Refusal} → numberOf r ≡ 14 → first (lowFault i d) checked.Passed ≡ checked.Refused r → d ≡ drove.TooLow
+low-drove : (i : ℕ) (d : Drove) {r : Refusal} → numberOf r ≡ 14 → lowFault i d ≡ checked.Refused r → d ≡ drove.TooLow
 low-drove i (drove.On v) n e = let z : _≡_ {A = ℕ} 0 1 = cc in absurd (omega arith)
 low-drove i drove.TooLow n e = refl
 
@@ -36,7 +36,7 @@ unfolding placeFault
 place-low rs source es i d {r} n e =
     go (ltb (entryAt es i) (roadCount rs)) (eqb (roadOf rs (entryAt es i) .tail) (standsAt rs source es i)) e
   where
-    go : (t u : Bool) → first (unless t (refusal.NotRoad i)) (first (unless u (refusal.NotHere i)) (first (lowFault i d) checked.Passed)) ≡ checked.Refused r
+    go : (t u : Bool) → first (unless t (refusal.NotRoad i)) (first (unless u (refusal.NotHere i)) (lowFault i d)) ≡ checked.Refused r
         → d ≡ drove.TooLow
     go true true h = low-drove i d n h
     go true false h = clash {r = r} {s = refusal.NotHere i} n (λ k. omega arith) h

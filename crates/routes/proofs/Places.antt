@@ -5,19 +5,19 @@ use Prim.Native.Nat.{ℕ, _+_, _-_, _≤_, _<_}
 use native.Mathlib.Numerals.{add-one}
 use native.Mathlib.Omega.{arith}
 use borrow.Author.Tests.{ltb-true}
-use lib.Dec.{ltb, eqb}
+use lib.Dec.{ltb}
 use lib.ListN.{length, take, drop, take-append-drop}
 use lib.Seq.{take-suc, take-all}
 use Rattle.battery.specs.declared.Road.{Road}
-use Rattle.network.proofs.Faults.{first-end, first-append, first-passed, unless-passed, from-go, from-stop, from-end}
-use Rattle.network.specs.Check.{unless, first, firstOf, firstFrom}
+use Rattle.refusals.proofs.Faults.{first-assoc, first-passed, unless-passed, from-go, from-stop, from-end}
+use Rattle.refusals.specs.Order.{first, firstFrom}
 use Rattle.network.specs.Files.{roadCount, roadOf}
-use Rattle.network.specs.Walks.{roadsOf}
-use Rattle.network.specs.declared.Refusal.{Refusal}
-use Rattle.network.specs.declared.Refusal.the-variants as refusal
-use Rattle.network.specs.declared.Checked.{Checked}
-use Rattle.network.specs.declared.Checked.the-variants as checked
-use Rattle.routes.specs.Places.{entryAt, standsAt, upTo, placeFault, routeFault}
+use Rattle.journeys.specs.Walks.{roadsOf}
+use Rattle.refusals.specs.declared.Refusal.{Refusal}
+use Rattle.refusals.specs.declared.Refusal.the-variants as refusal
+use Rattle.refusals.specs.declared.Checked.{Checked}
+use Rattle.refusals.specs.declared.Checked.the-variants as checked
+use Rattle.routes.specs.Places.{entryAt, standsAt, upTo, entryFault, beginFault, placeFault, routeFault}
 use Rattle.routes.specs.Steps.{enters}
 
 -- ---- one place
@@ -32,9 +32,8 @@ place-is : (rs : List ℕ) (source : ℕ) (es : List ℕ) (i : ℕ) (last : Chec
     → placeFault rs source es i last ≡ first (enters rs (entryAt es i) i (standsAt rs source es i)) last
 unfolding enters placeFault
 place-is rs source es i last =
-    let t = unless (ltb (entryAt es i) (roadCount rs)) (refusal.NotRoad i) in
-    let u = unless (eqb (roadOf rs (entryAt es i) .tail) (standsAt rs source es i)) (refusal.NotHere i) in
-    first-append (t ∷ u ∷ []) (last ∷ []) refl ∙ ap (first (firstOf (t ∷ u ∷ []))) (first-end last)
+    let e = entryAt es i in
+    sym (first-assoc (entryFault rs e i) (beginFault (roadOf rs e) i (standsAt rs source es i)) last)
 
 -- ---- the route
 

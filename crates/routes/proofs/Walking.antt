@@ -7,14 +7,13 @@ use native.Mathlib.Omega.{arith}
 use borrow.Author.Tests.{ltb-true, eqb-true, lt-ltb, eq-eqb}
 use lib.Dec.{ltb, eqb}
 use lib.ListN.{length}
-use Rattle.network.proofs.Faults.{each-passed, unless-passed, all-passed, none-fails}
-use Rattle.network.specs.Check.{unless}
+use Rattle.refusals.proofs.Faults.{first-passed, unless-passed, all-passed, none-fails}
 use Rattle.network.specs.Files.{roadCount, roadOf}
-use Rattle.network.specs.Walks.{Walk}
+use Rattle.journeys.specs.Walks.{Walk}
 use Rattle.walks.specs.Walk.{stay, go}
-use Rattle.network.specs.declared.Refusal.the-variants as refusal
-use Rattle.network.specs.declared.Checked.{Checked}
-use Rattle.network.specs.declared.Checked.the-variants.{Passed}
+use Rattle.refusals.specs.declared.Refusal.the-variants as refusal
+use Rattle.refusals.specs.declared.Checked.{Checked}
+use Rattle.refusals.specs.declared.Checked.the-variants.{Passed}
 use Rattle.routes.specs.Claims.{Walks}
 use Rattle.routes.specs.Places.{entryAt, standsAt, placeFault, routeFault}
 
@@ -50,16 +49,15 @@ module _ (rs : List ℕ) (source : ℕ) (es : List ℕ) (last : ℕ → Checked)
   passed-at : routeFault rs source es last ≡ Passed → (i : ℕ) → i < length es → Step rs source es i × (last i ≡ Passed)
   unfolding placeFault
   passed-at e i h =
-      let t = unless (ltb (entryAt es i) (roadCount rs)) (refusal.NotRoad i) in
-      let u = unless (eqb (roadOf rs (entryAt es i) .tail) (standsAt rs source es i)) (refusal.NotHere i) in
-      let a = each-passed (t ∷ u ∷ last i ∷ []) (all-passed (λ j. placeFault rs source es j (last j)) (length es) e i h) in (
+      let a = first-passed _ _ (all-passed (λ j. placeFault rs source es j (last j)) (length es) e i h) in
+      let b = first-passed _ _ (a .1) in (
         record {
           is-road = ltb-true _ _ (unless-passed (ltb (entryAt es i) (roadCount rs)) (refusal.NotRoad i) (a .0));
           here =
               eqb-true _ _
-              (unless-passed (eqb (roadOf rs (entryAt es i) .tail) (standsAt rs source es i)) (refusal.NotHere i) (a .1 .0));
+              (unless-passed (eqb (roadOf rs (entryAt es i) .tail) (standsAt rs source es i)) (refusal.NotHere i) (b .0));
         },
-        a .1 .1 .0,
+        b .1,
       )
 
   pub fault-walks : routeFault rs source es last ≡ Passed → Walks rs source es

@@ -1,22 +1,23 @@
 -- The faults of a given route, place by place. rs is the road file, es the route: road numbers.
-use mathlib.Core.List.{List, [], _∷_}
+use mathlib.Core.List.{List}
 use Prim.Native.Nat.{ℕ, zero, suc, _+_}
 use lib.Dec.{ltb, eqb}
 use lib.ListN.{length, getD, take}
 use Rattle.battery.specs.Drive.{driveAll}
 use Rattle.battery.specs.Profile.{profileOf}
+use Rattle.battery.specs.declared.Battery.{Battery}
 use Rattle.battery.specs.declared.Passage.{Passage}
 use Rattle.battery.specs.declared.Passage.the-variants.{Passable, Impassable}
 use Rattle.battery.specs.declared.Road.{Road}
 use Rattle.battery.specs.declared.Van.{Van}
 use Rattle.battery.specs.declared.Drove.{Drove}
 use Rattle.battery.specs.declared.Drove.the-variants.{On, TooLow}
-use Rattle.network.specs.Check.{unless, firstOf, firstFrom}
+use Rattle.refusals.specs.Order.{unless, first, firstFrom}
 use Rattle.network.specs.Files.{roadCount, roadOf}
-use Rattle.network.specs.Walks.{roadsOf}
-use Rattle.network.specs.declared.Refusal.the-variants as refusal
-use Rattle.network.specs.declared.Checked.{Checked}
-use Rattle.network.specs.declared.Checked.the-variants.{Passed, Refused}
+use Rattle.journeys.specs.Walks.{roadsOf}
+use Rattle.refusals.specs.declared.Refusal.the-variants as refusal
+use Rattle.refusals.specs.declared.Checked.{Checked}
+use Rattle.refusals.specs.declared.Checked.the-variants.{Passed, Refused}
 
 -- the most entries of a given route
 abbrev pub mostEntries : ℕ
@@ -35,13 +36,19 @@ standsAt rs source es (suc i) = roadOf rs (entryAt es i) .head
 abbrev pub upTo : List ℕ → List ℕ → ℕ → List Road
 upTo rs es i = roadsOf rs (take (i + 1) es)
 
+-- 12: the entry e of place i is a road
+abbrev pub entryFault : List ℕ → ℕ → ℕ → Checked
+entryFault rs e i = unless (ltb e (roadCount rs)) (refusal.NotRoad i)
+
+-- 13: the road r of place i begins at the junction `at`
+abbrev pub beginFault : Road → ℕ → ℕ → Checked
+beginFault r i at = unless (eqb (r .tail) at) (refusal.NotHere i)
+
 -- place i: 12, 13, and then what `last` tells
 unfoldable pub placeFault : List ℕ → ℕ → List ℕ → ℕ → Checked → Checked
 placeFault rs source es i last =
-    firstOf
-    (unless (ltb (entryAt es i) (roadCount rs)) (refusal.NotRoad i) ∷
-    unless (eqb (roadOf rs (entryAt es i) .tail) (standsAt rs source es i)) (refusal.NotHere i) ∷
-    last ∷ [])
+    first (entryFault rs (entryAt es i) i)
+    (first (beginFault (roadOf rs (entryAt es i)) i (standsAt rs source es i)) last)
 
 -- the whole route: 12, 13 and what `last` tells, at each place before the next
 abbrev pub routeFault : List ℕ → ℕ → List ℕ → (ℕ → Checked) → Checked
@@ -61,6 +68,6 @@ abbrev pub impassableFault : ℕ → Passage → Checked
 impassableFault i (Passable p) = Passed
 impassableFault i Impassable = Refused (refusal.Impassable i)
 
--- the profile with a battery of size M: 12, 13, 15
-abbrev pub profileFaults : List ℕ → ℕ → List ℕ → ℕ → Checked
-profileFaults rs source es M = routeFault rs source es (λ i. impassableFault i (profileOf M (upTo rs es i)))
+-- the profile with the battery B: 12, 13, 15
+abbrev pub profileFaults : List ℕ → ℕ → List ℕ → Battery → Checked
+profileFaults rs source es B = routeFault rs source es (λ i. impassableFault i (profileOf B (upTo rs es i)))

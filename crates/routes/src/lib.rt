@@ -1,12 +1,15 @@
 // A given route, place by place: driven, and profiled for all start charges.
 ghost use mathlib.Core.Path.{_≡_};
+ghost use Rattle.routes.specs.Places.{entryFault, beginFault};
 ghost use Rattle.routes.specs.Steps.{enters, DriveAsks, DriveKeeps, PlaceAsks, drivePlace, ProfileAsks, ProfileKeeps, ExtendAsks, profilePlace};
+use battery::Battery;
 use battery::Drove;
 use battery::Passage;
 use battery::Profile;
+use battery::Road;
 use battery::Van;
-use network::Checked;
-use network::Refusal;
+use refusals::Checked;
+use refusals::Refusal;
 
 // The most entries of a given route.
 pub const MOST_ENTRIES: usize = 8192;
@@ -60,7 +63,7 @@ pub fn drive_route(roads: &[u8], route: &[u16], source: usize, start: Van) -> Dr
 }
 
 // The profile of the route from the junction `source`: 12, 13, 15 at each place.
-pub fn profile_route(roads: &[u8], route: &[u16], source: usize, battery: u32) -> Profiled
+pub fn profile_route(roads: &[u8], route: &[u16], source: usize, battery: Battery) -> Profiled
     requires { ⌜ ProfileAsks (now roads) (now route) battery ⌝ }
     ensures { λ r. ⌜ ProfileKeeps (now (roads .entry)) (now (route .entry)) source battery r ⌝ }
 {
@@ -106,7 +109,7 @@ fn profile_place(
     entry: u16,
     i: usize,
     at: usize,
-    battery: u32,
+    battery: Battery,
     profile: Profile,
 ) -> ProfileStep
     requires { ⌜ ExtendAsks (now roads) i battery profile ⌝ }
@@ -128,11 +131,27 @@ fn profile_place(
 fn enter(roads: &[u8], entry: u16, i: usize, at: usize) -> Checked
     ensures { λ r. ⌜ r ≡ enters (now (roads .entry)) entry i at ⌝ }
 {
-    let k = entry as usize;
-    if roads.len() / network::ROAD_BYTES <= k {
+    let checked = check_entry(roads, entry, i);
+    if let Checked::Refused(r) = checked {
+        return Checked::Refused(r);
+    }
+    check_begin(network::road_at(roads, entry as usize), i, at)
+}
+
+// Whether the entry of place i is a road: 12.
+pub fn check_entry(roads: &[u8], entry: u16, i: usize) -> Checked
+    ensures { λ r. ⌜ r ≡ entryFault (now (roads .entry)) entry i ⌝ }
+{
+    if roads.len() / network::ROAD_BYTES <= entry as usize {
         return Checked::Refused(Refusal::NotRoad(i));
     }
-    let road = network::road_at(roads, k);
+    Checked::Passed
+}
+
+// Whether the road of place i begins at the junction `at`: 13.
+pub fn check_begin(road: Road, i: usize, at: usize) -> Checked
+    ensures { λ r. ⌜ r ≡ beginFault road i at ⌝ }
+{
     if road.tail as usize != at {
         return Checked::Refused(Refusal::NotHere(i));
     }

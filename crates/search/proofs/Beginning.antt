@@ -2,11 +2,11 @@
 use mathlib.Core.Path.{_≡_, ap}
 use Prim.Native.Nat.{ℕ, _+_, _<_}
 use native.Mathlib.Omega.{arith}
-use Rattle.frontier.specs.Frontier.{Put}
+use Rattle.lists.proofs.Puts.{put-only}
+use Rattle.lists.specs.Lists.{Put}
 use Rattle.walks.specs.Label.{Net}
 use Rattle.search.specs.State.{Settled, Idle}
 use Rattle.search.proofs.Counting.{unsettled-all}
-use Rattle.search.proofs.Puts.{put-only}
 
 module _ (N : Net) (psi : ℕ → ℕ) (n s l : ℕ) (L W K L' K' : ℕ → ℕ) (none : (v : ℕ) → L v ≡ 0) (empty : (v : ℕ) → K v ≡ 0)
     (p : Put L L' s l) (q : Put K K' s (l + psi s)) (some : 0 < l) (within : s < n) where

@@ -5,18 +5,21 @@ use mathlib.Core.Logic.{_⊎_, inl, inr, _≢_}
 use Prim.Native.Nat.{ℕ, suc, _%_, _<_}
 use native.Mathlib.Decide.{ℕ-discrete}
 use native.Mathlib.Omega.{arith}
+use Rattle.lists.specs.Lists.{entry, Put}
 use Rattle.frontier.proofs.Empty.{emptied}
-use Rattle.frontier.specs.Frontier.{places, entry, keyAt, Put, Top, Removes, Now}
+use Rattle.frontier.specs.Frontier.{places, keyAt, Top, Removes, Now}
 use Rattle.network.specs.Files.{junctions}
 use Rattle.walks.specs.Label.{Best}
-use Rattle.search.specs.Reading.{psi, net}
+use Rattle.reading.specs.Reading.{psi, net}
+use Rattle.reading.specs.declared.Reading.{Reading}
+use Rattle.reading.proofs.Laws.{laws}
+use Rattle.reading.proofs.Net.{count-is}
 use Rattle.search.specs.State.{unsettled, Busy, Idle, Next}
 use Rattle.search.specs.Searches.{ExploreAsks, Explored}
 use Rattle.search.specs.Steps.{waiting, Underway, SpreadAsks, SpreadKeeps}
-use Rattle.search.specs.declared.Reading.{Reading}
 use Rattle.search.specs.declared.Trip.{Trip}
+use Rattle.search.proofs.Sizes.{places-fit}
 use Rattle.search.proofs.Finishing.{best-t, route-t, best-all, route-all}
-use Rattle.search.proofs.Laws.{laws, count-is}
 use Rattle.search.proofs.Relaxing.{rests}
 use Rattle.search.proofs.Packing.{put-waiting}
 use Rattle.search.proofs.Settling.{settle}
@@ -59,7 +62,7 @@ module _ (rd : Reading) (ns rs chains : List ℕ) (trip : Trip) (labels₀ ways�
     removes =
         record {
           frontier = i .underway .queued .frontier;
-          within = omega (arith, inside, a .sets-out .readable .few, i .underway .sized .long-queue);
+          within = omega (arith, inside, places-fit (a .sets-out .readable), i .underway .sized .long-queue);
           placed = omega arith;
         }
 
@@ -96,7 +99,7 @@ module _ (rd : Reading) (ns rs chains : List ℕ) (trip : Trip) (labels₀ ways�
                   bounded = i .underway .bounded;
                   real = λ v h. real₁ v h (ℕ-discrete v (top % places));
                 };
-            within = omega (arith, inside, a .sets-out .readable .few);
+            within = omega (arith, inside, places-fit (a .sets-out .readable));
             some = labelled;
           }
 

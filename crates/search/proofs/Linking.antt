@@ -6,10 +6,11 @@ use Prim.Native.Nat.{ℕ, _+_, _≤_, _<_}
 use native.Mathlib.Decide.{ℕ-discrete}
 use native.Mathlib.Omega.{arith}
 use lib.ListN.{length, set, length-set}
-use Rattle.frontier.proofs.Stores.{put-of}
-use Rattle.frontier.specs.Frontier.{entry, Put}
-use Rattle.network.specs.Files.{mostJunctions, mostRoads}
+use Rattle.lists.proofs.Stores.{set-put}
+use Rattle.lists.specs.Lists.{entry, Put}
+use Rattle.network.specs.Files.{mostRoads}
 use Rattle.walks.specs.Walk.{Roads}
+use Rattle.search.specs.Sizes.{mostPlaces, chainsSize}
 use Rattle.search.specs.Chains.{lastOf, previousOf, Link, Chained, ChainAsks}
 
 pub chained-none : (R : Roads) (chains : List ℕ) → ChainAsks R chains → Chained R 0 chains
@@ -23,26 +24,26 @@ chained-none R chains a =
     }
 
 module _ (R : Roads) (k : ℕ) (chains : List ℕ) (c : Chained R k chains) (few : k < mostRoads) (v : ℕ) (at-v : v ≡ R .tail k)
-    (within : v < mostJunctions) where
+    (within : v < mostPlaces) where
   first : List ℕ
-  first = set chains (mostJunctions + k) (entry chains v)
+  first = set chains (mostPlaces + k) (entry chains v)
 
   second : List ℕ
   second = set first v (k + 1)
 
-  put₁ : Put (entry chains) (entry first) (mostJunctions + k) (entry chains v)
+  put₁ : Put (entry chains) (entry first) (mostPlaces + k) (entry chains v)
   unfolding first
-  put₁ = put-of chains (omega (arith, c .long)) refl
+  put₁ = set-put chains (omega (arith, c .long)) refl
 
-  long₁ : length first ≡ mostJunctions + mostRoads
+  long₁ : length first ≡ chainsSize
   unfolding first
-  long₁ = length-set chains (mostJunctions + k) (entry chains v) ∙ c .long
+  long₁ = length-set chains (mostPlaces + k) (entry chains v) ∙ c .long
 
   put₂ : Put (entry first) (entry second) v (k + 1)
   unfolding second
-  put₂ = put-of first (omega (arith, long₁)) refl
+  put₂ = set-put first (omega (arith, long₁)) refl
 
-  lasts : (w : ℕ) → w < mostJunctions → Dec (w ≡ v) → Link R w (lastOf second w) (k + 1)
+  lasts : (w : ℕ) → w < mostPlaces → Dec (w ≡ v) → Link R w (lastOf second w) (k + 1)
   lasts w h (yes e) =
       let p : lastOf second w ≡ k + 1 = ap (lastOf second) e ∙ put₂ .here in
       record {
@@ -67,15 +68,15 @@ module _ (R : Roads) (k : ℕ) (chains : List ℕ) (c : Chained R k chains) (few
   previous : (j : ℕ) → j < k + 1 → Dec (j ≡ k) → Link R (R .tail j) (previousOf second j) j
   previous j h (yes e) =
       let p : previousOf second j ≡ lastOf chains v =
-      put₂ .rest (mostJunctions + j) (λ q. absurd (omega arith)) ∙ ap (λ (i : ℕ). entry first (mostJunctions + i)) e ∙ put₁ .here in
+      put₂ .rest (mostPlaces + j) (λ q. absurd (omega arith)) ∙ ap (λ (i : ℕ). entry first (mostPlaces + i)) e ∙ put₁ .here in
       rw (p, e, ← at-v) (c .lasts v within)
   previous j h (no e) =
       let p : previousOf second j ≡ previousOf chains j =
-      put₂ .rest (mostJunctions + j) (λ q. absurd (omega arith))
-      ∙ put₁ .rest (mostJunctions + j) (λ q. e (omega arith)) in
+      put₂ .rest (mostPlaces + j) (λ q. absurd (omega arith))
+      ∙ put₁ .rest (mostPlaces + j) (λ q. e (omega arith)) in
       rw p (c .previous j (omega arith))
 
-  pub chained-more : Chained R (k + 1) (set (set chains (mostJunctions + k) (entry chains v)) v (k + 1))
+  pub chained-more : Chained R (k + 1) (set (set chains (mostPlaces + k) (entry chains v)) v (k + 1))
   unfolding first second
   chained-more =
       record {

@@ -8,11 +8,12 @@ use native.Mathlib.Omega.{arith}
 use borrow.Author.Tests.{lt-ltb, le-ltb, ltb-true, ltb-false}
 use lib.Dec.{ltb}
 use lib.ListN.{length, set, length-set}
-use lib.Seq.{set-getD}
-use Rattle.frontier.proofs.Stores.{put-of}
-use Rattle.frontier.specs.Frontier.{places, entry, keyAt, Put, Now, Raises}
-use Rattle.search.specs.Steps.{choose, better, Same, Change, passed, taken, OfferAsks, Offered}
+use Rattle.lists.proofs.Stores.{set-put, set-same}
+use Rattle.lists.specs.Lists.{entry, Same, Put}
+use Rattle.frontier.specs.Frontier.{places, keyAt, Now, Raises}
+use Rattle.search.specs.Steps.{choose, better, Change, passed, taken, OfferAsks, Offered}
 use Rattle.search.specs.declared.Offer.{Offer}
+use Rattle.search.proofs.Sizes.{ways-fit}
 
 pub better-yes : {old new : ℕ} (x y : ℕ) → old < new → y ≡ better old new x y
 better-yes {old} {new} x y h = ap (λ (t : Bool). choose t x y) (sym (lt-ltb old new h))
@@ -46,11 +47,7 @@ module _ (labels ways queue : List ℕ) (top v : ℕ) (o : Offer) (a : OfferAsks
   in-labels = omega (arith, a .within, a .sized .long-labels)
 
   in-ways : v < length ways
-  in-ways = omega (arith, a .within, a .sized .long-ways)
-
-  -- a store of what stands there changes nothing
-  store-same : (xs : List ℕ) (y : ℕ) → y ≡ entry xs v → Same (entry xs) (entry (set xs v y))
-  store-same xs y e i = ap (λ (zs : List ℕ). entry zs i) (ap (set xs v) e ∙ set-getD xs v 0)
+  in-ways = omega (arith, a .within, a .sized .long-ways, ways-fit)
 
   key-same : k ≡ 0 → Same (keyAt queue) (keyAt queue')
   key-same e i = go (ℕ-discrete i v)
@@ -65,10 +62,10 @@ module _ (labels ways queue : List ℕ) (top v : ℕ) (o : Offer) (a : OfferAsks
       (entry (set labels v x)) (entry (set ways v w)) (keyAt queue')
   change true e p q s =
       taken (ltb-true _ _ e)
-      (put-of labels in-labels (ap (set labels v) p))
-      (put-of ways in-ways (ap (set ways v) q))
+      (set-put labels in-labels (ap (set labels v) p))
+      (set-put ways in-ways (ap (set ways v) q))
       (subst (λ (y : ℕ). Put (keyAt queue) (keyAt queue') v (max (keyAt queue v) y)) s (n .put))
-  change false e p q s = passed (ltb-false _ _ e) (store-same labels x p) (store-same ways w q) (key-same s)
+  change false e p q s = passed (ltb-false _ _ e) (set-same labels v p) (set-same ways v q) (key-same s)
 
   pub offered : x ≡ better (entry labels v) (o .label) (entry labels v) (o .label)
       → w ≡ better (entry labels v) (o .label) (entry ways v) (o .road) → k ≡ better (entry labels v) (o .label) 0 (o .key)

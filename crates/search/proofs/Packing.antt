@@ -3,7 +3,8 @@ use mathlib.Core.Path.{_≡_, ap, _∙_}
 use mathlib.Core.List.{List}
 use Prim.Native.Nat.{ℕ, _/_, _%_, _<_}
 use native.Mathlib.Omega.{arith}
-use Rattle.frontier.specs.Frontier.{places, keyAt, Put}
+use Rattle.lists.specs.Lists.{Put}
+use Rattle.frontier.specs.Frontier.{places, keyAt}
 use Rattle.search.specs.Steps.{waiting, packed}
 
 pub packed-tells : (key v : ℕ) → v < places → packed key v % places ≡ v

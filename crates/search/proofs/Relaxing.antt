@@ -4,10 +4,11 @@ use mathlib.Core.Logic.{_≢_}
 use Prim.Native.Nat.{ℕ, suc, _+_, _≤_, _<_}
 use native.Mathlib.Decide.{ℕ-discrete}
 use native.Mathlib.Omega.{arith}
-use Rattle.frontier.specs.Frontier.{Put}
+use Rattle.lists.proofs.Zeros.{zeros-same}
+use Rattle.lists.specs.Lists.{Put}
 use Rattle.walks.specs.Label.{Net, Laws}
-use Rattle.search.specs.State.{Settled, due, Via, Kept, Busy, Idle}
-use Rattle.search.proofs.Counting.{settled?, unsettled-waits, due-some, unsettled-same}
+use Rattle.search.specs.State.{Settled, tally, Via, Kept, Busy, Idle}
+use Rattle.search.proofs.Counting.{settled?, unsettled-waits, tally-open}
 
 module _ (N : Net) (psi : ℕ → ℕ) (n s l turns u k : ℕ) (L W K : ℕ → ℕ) (b : Busy N psi n s l turns u (suc k) L W K)
     (here : N .roads .tail k ≡ u) where
@@ -74,11 +75,11 @@ module _ (N : Net) (psi : ℕ → ℕ) (n s l turns u k : ℕ) (L W K : ℕ → 
     pub keeps-u : L' u ≡ L u
     keeps-u = p .rest u (other u (b .settled))
 
-    same-due : (y : ℕ) → Dec (y ≡ v) → due (L' y) (K' y) ≡ due (L y) (K y)
-    same-due y (no e) = λ i. due (p .rest y e i) (q .rest y e i)
-    same-due y (yes e) =
-        due-some (L' y) (K' y) (λ _. omega (arith, ap K' e, waiting))
-        ∙ sym (due-some (L y) (K y) (λ h. unsettled-waits L K y h (λ t. other y t e)))
+    tallied : (y : ℕ) → Dec (y ≡ v) → tally (L' y) (K' y) ≡ tally (L y) (K y)
+    tallied y (no e) = λ i. tally (p .rest y e i) (q .rest y e i)
+    tallied y (yes e) =
+        tally-open (L' y) (K' y) (λ _. omega (arith, ap K' e, waiting))
+        ∙ sym (tally-open (L y) (K y) (λ h. unsettled-waits L K y h (λ t. other y t e)))
 
     inside : (y : ℕ) → 0 < L' y → Dec (y ≡ v) → y < n
     inside y h (yes e) = omega arith
@@ -154,7 +155,7 @@ module _ (N : Net) (psi : ℕ → ℕ) (n s l turns u k : ℕ) (L W K : ℕ → 
                 rank = b .state .rank;
                 rank-le = b .state .rank-le;
                 rank-pos = λ y t. b .state .rank-pos y (was y t);
-                counted = omega (arith, b .state .counted, unsettled-same L K L' K' (λ y. same-due y (ℕ-discrete y v)) n);
+                counted = omega (arith, b .state .counted, zeros-same _ _ (λ y. tallied y (ℕ-discrete y v)) n);
                 inside = λ y h. inside y h (ℕ-discrete y v);
                 start = p .rest s (other s source) ∙ b .state .start;
                 some = b .state .some;

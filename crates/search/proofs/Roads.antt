@@ -4,40 +4,22 @@ use mathlib.Core.List.{List}
 use Prim.Native.Nat.{ℕ, _+_, _%_, _^_, _≤_, _<_}
 use native.Mathlib.Decide.{ℕ-discrete}
 use native.Mathlib.Omega.{arith}
-use Rattle.battery.specs.declared.Road.{Road}
-use Rattle.frontier.specs.Frontier.{places, entry, keyAt}
-use Rattle.network.proofs.Records.{all-ranged}
-use Rattle.network.specs.Files.{roadOf}
-use Rattle.search.specs.Reading.{left, stepOf, psi, net}
-use Rattle.search.specs.Steps.{StepAsks, waiting, packed, KeyAsks, Change, passed, taken, OfferAsks, Offered, RelaxAsks, Relaxed, RelaxKeeps}
-use Rattle.search.specs.declared.Reading.{Reading}
-use Rattle.search.proofs.Laws.{step-le, heads-in}
+use Rattle.lists.specs.Lists.{entry}
+use Rattle.frontier.specs.Frontier.{places, keyAt}
+use Rattle.reading.proofs.Laws.{step-le}
+use Rattle.reading.proofs.Net.{heads-in}
+use Rattle.reading.specs.Reading.{mostLabel, psi, net}
+use Rattle.reading.specs.declared.Reading.{Reading}
+use Rattle.search.specs.Steps.{waiting, packed, KeyAsks, Change, passed, taken, OfferAsks, Offered, RelaxAsks, Relaxed, RelaxKeeps}
+use Rattle.search.proofs.Sizes.{places-fit, keys-fit}
 use Rattle.search.proofs.Packing.{packed-tells}
 
 module _ (rd : Reading) (ns rs : List ℕ) (k label : ℕ) (labels ways queue : List ℕ) (top : ℕ)
-    (a : RelaxAsks rd ns rs k label labels ways queue top) (road : Road) (v : ℕ)
-    (road-is : road ≡ roadOf rs k) (v-is : v ≡ left (rd .sense) road) where
-  pub step-asks : StepAsks (rd .battery) road label
-  step-asks =
-      record {
-        some = a .some;
-        label-le = a .label-le;
-        battery-le = a .readable .battery-le;
-        ranged = rw road-is (all-ranged ns rs (a .readable .checked) k (a .road));
-      }
-
-  head-is : v ≡ net rd rs .roads .head k
-  unfolding net
-  head-is = v-is ∙ ap (left (rd .sense)) road-is
-
+    (a : RelaxAsks rd ns rs k label labels ways queue top) (v : ℕ) (v-is : v ≡ net rd rs .roads .head k) where
   pub key-asks : KeyAsks ns v
-  key-asks =
-      record {
-        within = omega (arith, head-is, heads-in rd ns rs (a .readable) k (a .road));
-        few = a .readable .few;
-      }
+  key-asks = record { within = omega (arith, heads-in rd ns rs (a .readable) k (a .road)); few = places-fit (a .readable) }
 
-  module _ (x key : ℕ) (x-is : x ≡ stepOf (rd .sense) (rd .battery) road label) (key-is : key ≡ packed (x + psi rd ns v) v) (key-small : key < 2 ^ 63) where
+  module _ (x key : ℕ) (x-is : x ≡ net rd rs .step k label) (key-is : key ≡ packed (x + psi rd ns v) v) (key-small : key < 2 ^ 63) where
     pub offer-asks : OfferAsks labels ways queue top v (record { road = k; label = x; key = key })
     offer-asks =
         record {
@@ -47,21 +29,17 @@ module _ (rd : Reading) (ns rs : List ℕ) (k label : ℕ) (labels ways queue : 
           key-small = key-small;
           tells =
               ap (λ (n : ℕ). n % places) key-is
-              ∙ packed-tells (x + psi rd ns v) v (omega (arith, key-asks .within, key-asks .few));
+              ∙ packed-tells (x + psi rd ns v) v (omega (arith, key-asks .within, key-asks .few, keys-fit));
         }
-
-    brings-is : x ≡ net rd rs .step k label
-    unfolding net
-    brings-is = x-is ∙ ap (λ (r : Road). stepOf (rd .sense) (rd .battery) r label) road-is
 
     module _ (labels' ways' queue' : List ℕ) (r : ℕ)
         (o : Offered labels ways queue v (record { road = k; label = x; key = key }) labels' ways' queue' r) where
       bounded : (u : ℕ)
           → Change (entry labels) (entry ways) (keyAt queue) v x k key (entry labels') (entry ways') (keyAt queue')
-          → Dec (u ≡ v) → entry labels' u ≤ rd .battery + 1
+          → Dec (u ≡ v) → entry labels' u ≤ mostLabel (rd .battery)
       bounded u (passed h same ways-same keys-same) d = omega (arith, same u, a .underway .bounded u)
       bounded u (taken h put ways-put keys-put) (yes e) =
-          omega (arith, ap (entry labels') e, put .here, x-is, step-le (rd .sense) (rd .battery) road label)
+          omega (arith, ap (entry labels') e, put .here, step-le rd rs k label)
       bounded u (taken h put ways-put keys-put) (no e) = omega (arith, put .rest u e, a .underway .bounded u)
 
       real : (u : ℕ)
@@ -80,11 +58,11 @@ module _ (rd : Reading) (ns rs : List ℕ) (k label : ℕ) (labels ways queue : 
           (λ (y : ℕ). Change (entry labels) (entry ways) (keyAt queue) (net rd rs .roads .head k) y k
           (packed (y + psi rd ns (net rd rs .roads .head k)) (net rd rs .roads .head k))
           (entry labels') (entry ways') (keyAt queue'))
-          brings-is
+          x-is
           (subst
           (λ (u : ℕ). Change (entry labels) (entry ways) (keyAt queue) u x k (packed (x + psi rd ns u) u)
           (entry labels') (entry ways') (keyAt queue'))
-          head-is
+          v-is
           (subst
           (λ (y : ℕ). Change (entry labels) (entry ways) (keyAt queue) v x k y (entry labels') (entry ways') (keyAt queue'))
           key-is (o .change)))

@@ -4,11 +4,12 @@ use mathlib.Core.Logic.{_≢_}
 use Prim.Native.Nat.{ℕ, suc, _+_, _≤_, _<_}
 use native.Mathlib.Decide.{ℕ-discrete}
 use native.Mathlib.Omega.{arith}
-use Rattle.frontier.specs.Frontier.{Put}
+use Rattle.lists.proofs.Puts.{put, put-is}
+use Rattle.lists.proofs.Zeros.{zeros-put}
+use Rattle.lists.specs.Lists.{Put}
 use Rattle.walks.specs.Label.{Net}
-use Rattle.search.specs.State.{Settled, due, unsettled, Via, Kept, Busy, Idle, Next}
-use Rattle.search.proofs.Counting.{due-some, settled-due, unsettled-one}
-use Rattle.search.proofs.Puts.{put, put-is}
+use Rattle.search.specs.State.{Settled, tally, unsettled, Via, Kept, Busy, Idle, Next}
+use Rattle.search.proofs.Counting.{tally-settled, tally-open}
 
 module _ (N : Net) (psi : ℕ → ℕ) (n s l turns u : ℕ) (L W K K' : ℕ → ℕ) (i : Idle N psi n s l turns L W K) (x : Next K u)
     (q : Put K K' u 0) where
@@ -89,10 +90,11 @@ module _ (N : Net) (psi : ℕ → ℕ) (n s l turns u : ℕ) (L W K K' : ℕ →
   relaxed k h t m (yes e) = absurd (omega (arith, m e))
   relaxed k h t m (no e) = i .relaxed k h (was _ t e)
 
+  tallied : Put (λ v. tally (L v) (K v)) (λ v. tally (L v) (K' v)) u 1
+  tallied = record { here = tally-settled (L u) (K' u) has (q .here); rest = λ v e. ap (tally (L v)) (q .rest v e) }
+
   one-less : suc (unsettled L K' n) ≡ unsettled L K n
-  one-less =
-      unsettled-one L K L K' u (due-some (L u) (K u) (λ _. x .waiting)) (settled-due now)
-      (λ v e. ap (due (L v)) (q .rest v e)) n (i .state .inside u has)
+  one-less = zeros-put tallied (tally-open (L u) (K u) (λ _. x .waiting)) (omega arith) n (i .state .inside u has)
 
   pub settle : Busy N psi n s l (suc turns) u (N .roads .count) L W K'
   settle =

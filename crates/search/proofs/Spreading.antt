@@ -4,15 +4,18 @@ use mathlib.Core.List.{List}
 use Prim.Native.Nat.{ℕ, suc, _+_, _-_, _/_, _≤_, _<_, max}
 use native.Mathlib.Decide.{decLt}
 use native.Mathlib.Omega.{arith}
-use Rattle.frontier.specs.Frontier.{places, entry, keyAt}
+use Rattle.lists.specs.Lists.{entry, Same}
+use Rattle.frontier.specs.Frontier.{places, keyAt}
 use Rattle.network.specs.Files.{junctions, roadCount}
 use Rattle.walks.specs.Label.{Net, Laws}
+use Rattle.reading.specs.Reading.{psi, net}
+use Rattle.reading.specs.declared.Reading.{Reading}
+use Rattle.reading.proofs.Laws.{laws}
+use Rattle.reading.proofs.Net.{heads-in, count-is}
 use Rattle.search.specs.Chains.{previousOf, Link}
-use Rattle.search.specs.Reading.{psi, net}
 use Rattle.search.specs.State.{Busy}
-use Rattle.search.specs.Steps.{waiting, packed, Underway, Same, passed, taken, RelaxAsks, Relaxed, RelaxKeeps, SpreadAsks, Spreads, SpreadKeeps}
-use Rattle.search.specs.declared.Reading.{Reading}
-use Rattle.search.proofs.Laws.{laws, heads-in, count-is}
+use Rattle.search.specs.Steps.{waiting, packed, Underway, passed, taken, RelaxAsks, Relaxed, RelaxKeeps, SpreadAsks, Spreads, SpreadKeeps}
+use Rattle.search.proofs.Sizes.{places-fit, keys-fit}
 use Rattle.search.proofs.Packing.{put-waiting}
 use Rattle.search.proofs.Relaxing.{pass, take, keeps-u}
 
@@ -129,7 +132,7 @@ module _ (rd : Reading) (ns rs chains : List ℕ) (u : ℕ) (labels ways queue :
           let o =
           one-road (net rd rs) (psi rd ns) (junctions ns) s l turns u k (laws rd ns rs (a .readable))
           (omega (arith, is-road, count-is rd rs)) (i .hit k next-is) (heads-in rd ns rs (a .readable) k is-road)
-          (omega (arith, a .readable .few)) (entry labels u) (entry labels₁) (entry ways₁) (entry labels₂) (entry ways₂)
+          (omega (arith, places-fit (a .readable), keys-fit)) (entry labels u) (entry labels₁) (entry ways₁) (entry labels₂) (entry ways₂)
           queue₁ queue₂ d (c .1) (r .relaxed)
           in
           (skip _ _ _ _ _ _ _ _ _ _ _ _ previous (o .0), o .1 ∙ c .1)

@@ -5,15 +5,17 @@ use Prim.Native.Nat.{ℕ, _+_, _/_, _%_, _^_, _≤_, _<_, max}
 use native.Mathlib.Decide.{ℕ-discrete}
 use native.Mathlib.Omega.{arith}
 use lib.ListN.{length, set, length-set}
+use Rattle.lists.proofs.Stores.{set-put}
+use Rattle.lists.specs.Lists.{entry, Put}
 use Rattle.frontier.proofs.Empty.{empty, empty-top}
-use Rattle.frontier.proofs.Stores.{put-of}
-use Rattle.frontier.specs.Frontier.{places, keysFrom, entry, keyAt, Put, Raises, Now}
+use Rattle.frontier.specs.Frontier.{places, keysFrom, keyAt, Raises, Now}
 use Rattle.network.specs.Files.{junctions}
-use Rattle.search.specs.Reading.{psi, net}
+use Rattle.reading.specs.Reading.{mostLabel, psi, net}
+use Rattle.reading.specs.declared.Reading.{Reading}
 use Rattle.search.specs.Searches.{ExploreAsks}
 use Rattle.search.specs.Steps.{waiting, packed, KeyAsks}
-use Rattle.search.specs.declared.Reading.{Reading}
 use Rattle.search.specs.declared.Trip.{Trip}
+use Rattle.search.proofs.Sizes.{places-fit, keys-fit, queue-whole}
 use Rattle.search.proofs.Exploring.{ExploreLoop}
 use Rattle.search.proofs.Packing.{packed-tells, put-waiting}
 use Rattle.search.proofs.Beginning.{begin}
@@ -21,10 +23,10 @@ use Rattle.search.proofs.Beginning.{begin}
 module _ (rd : Reading) (ns rs chains : List ℕ) (trip : Trip) (labels₀ ways₀ queue₀ : List ℕ)
     (a : ExploreAsks rd ns rs chains trip labels₀ ways₀ queue₀) where
   pub source-asks : KeyAsks ns (trip .source)
-  source-asks = record { within = a .sets-out .source-in; few = a .sets-out .readable .few }
+  source-asks = record { within = a .sets-out .source-in; few = places-fit (a .sets-out .readable) }
 
   whole : length queue₀ % 8 ≡ 0
-  whole = ap (λ (n : ℕ). n % 8) (a .sized .long-queue)
+  whole = ap (λ (n : ℕ). n % 8) (a .sized .long-queue) ∙ queue-whole
 
   pub first-raises : (key : ℕ) → key ≡ packed (trip .label + psi rd ns (trip .source)) (trip .source) → key < 2 ^ 63
       → Raises queue₀ 0 (trip .source) key
@@ -32,11 +34,11 @@ module _ (rd : Reading) (ns rs chains : List ℕ) (trip : Trip) (labels₀ ways�
       record {
         frontier = empty queue₀ (a .no-key) (omega (arith, a .sized .long-queue)) whole;
         best = empty-top queue₀ (a .no-key);
-        within = omega (arith, a .sets-out .source-in, a .sets-out .readable .few, a .sized .long-queue);
+        within = omega (arith, a .sets-out .source-in, places-fit (a .sets-out .readable), a .sized .long-queue);
         key-small = small;
         tells =
             λ _. ap (λ (n : ℕ). n % places) e
-            ∙ packed-tells _ (trip .source) (omega (arith, a .sets-out .source-in, a .sets-out .readable .few));
+            ∙ packed-tells _ (trip .source) (omega (arith, a .sets-out .source-in, places-fit (a .sets-out .readable), keys-fit));
       }
 
   module _ (key : ℕ) (key-is : key ≡ packed (trip .label + psi rd ns (trip .source)) (trip .source)) (queue : List ℕ) (top : ℕ)
@@ -46,12 +48,12 @@ module _ (rd : Reading) (ns rs chains : List ℕ) (trip : Trip) (labels₀ ways�
 
     put-label : Put (entry labels₀) (entry labels) (trip .source) (trip .label)
     unfolding labels
-    put-label = put-of labels₀ (omega (arith, a .sets-out .source-in, a .sets-out .readable .few, a .sized .long-labels)) refl
+    put-label = set-put labels₀ (omega (arith, a .sets-out .source-in, places-fit (a .sets-out .readable), a .sized .long-labels)) refl
 
     put-key : Put (waiting queue₀) (waiting queue) (trip .source) (trip .label + psi rd ns (trip .source))
-    put-key = put-waiting queue₀ queue (n .put) (omega (arith, a .no-key (keysFrom + trip .source), key-is, a .sets-out .source-in, a .sets-out .readable .few))
+    put-key = put-waiting queue₀ queue (n .put) (omega (arith, a .no-key (keysFrom + trip .source), key-is, a .sets-out .source-in, places-fit (a .sets-out .readable), keys-fit))
 
-    bounded : (v : ℕ) → Dec (v ≡ trip .source) → entry labels v ≤ rd .battery + 1
+    bounded : (v : ℕ) → Dec (v ≡ trip .source) → entry labels v ≤ mostLabel (rd .battery)
     bounded v (yes e) = omega (arith, ap (entry labels) e, put-label .here, a .sets-out .label-le)
     bounded v (no e) = omega (arith, put-label .rest v e, a .no-label v)
 

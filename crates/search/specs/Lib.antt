@@ -1,4 +1,4 @@
-pub mod Reading
+pub mod Sizes
 pub mod State
 pub mod Trails
 pub mod Chains

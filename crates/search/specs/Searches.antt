@@ -2,16 +2,17 @@
 use mathlib.Core.Path.{_≡_}
 use mathlib.Core.List.{List}
 use mathlib.Core.Logic.{_⊎_}
-use Prim.Native.Nat.{ℕ, _+_, _≤_, _<_}
+use Prim.Native.Nat.{ℕ, _≤_, _<_}
 use lib.ListN.{length}
-use Rattle.frontier.specs.Frontier.{entry, AllZero}
-use Rattle.network.specs.Files.{junctions, roadCount, mostJunctions, mostRoads}
+use Rattle.lists.specs.Lists.{entry, AllZero}
+use Rattle.network.specs.Files.{junctions, roadCount}
 use Rattle.walks.specs.Label.{Net, Best}
+use Rattle.reading.specs.Asks.{Readable}
+use Rattle.reading.specs.Reading.{mostLabel, net}
+use Rattle.reading.specs.declared.Reading.{Reading}
+use Rattle.search.specs.Sizes.{mostPlaces, Sized, Lent}
 use Rattle.search.specs.Chains.{Unchained, Chained}
-use Rattle.search.specs.Reading.{net}
-use Rattle.search.specs.Steps.{Readable, Sized}
 use Rattle.search.specs.Trails.{Route}
-use Rattle.search.specs.declared.Reading.{Reading}
 use Rattle.search.specs.declared.Trip.{Trip}
 
 -- where a search sets out, and with what label
@@ -19,7 +20,7 @@ pub record SetsOut (rd : Reading) (ns rs : List ℕ) (source label : ℕ) : Type
   pub readable : Readable (rd .battery) ns rs
   pub source-in : source < junctions ns
   pub some : 0 < label
-  pub label-le : label ≤ rd .battery + 1
+  pub label-le : label ≤ mostLabel (rd .battery)
 
 pub record ExploreAsks (rd : Reading) (ns rs chains : List ℕ) (trip : Trip) (labels ways queue : List ℕ) : Type 0 where
   pub sets-out : SetsOut rd ns rs (trip .source) (trip .label)
@@ -36,14 +37,7 @@ pub record Explored (N : Net) (n : ℕ) (trip : Trip) (labels ways queue : List 
       → Route N (entry ways) n (trip .source) (trip .label) (trip .target) (entry labels (trip .target))
   pub emptied : entry labels (trip .target) ≡ 0 → AllZero queue
 
--- ---- in lists that are lent
-
--- the sizes of all four
-pub record Lent (chains labels ways queue : List ℕ) : Type 0 where
-  pub long : length chains ≡ mostJunctions + mostRoads
-  pub sized : Sized labels ways queue
-
--- no road on a chain, no label, no key
+-- in lists that are lent: no road on a chain, no label, no key
 pub record SeekAsks (rd : Reading) (ns rs : List ℕ) (trip : Trip) (chains labels ways queue : List ℕ) : Type 0 where
   pub sets-out : SetsOut rd ns rs (trip .source) (trip .label)
   pub lent : Lent chains labels ways queue
@@ -55,10 +49,10 @@ pub record SeekAsks (rd : Reading) (ns rs : List ℕ) (trip : Trip) (chains labe
 
 pub record LabelAsks (rd : Reading) (ns rs : List ℕ) (source label : ℕ) (labels : List ℕ) : Type 0 where
   pub sets-out : SetsOut rd ns rs source label
-  pub long : length labels ≡ mostJunctions
+  pub long : length labels ≡ mostPlaces
   pub no-label : AllZero labels
 
 -- from s with the label l: every junction has its best label
 pub record Labels (N : Net) (s l : ℕ) (labels : List ℕ) : Type 0 where
-  pub long : length labels ≡ mostJunctions
+  pub long : length labels ≡ mostPlaces
   pub best : (v : ℕ) → Best N s l v (entry labels v)

@@ -3,6 +3,7 @@
 use mathlib.Core.Path.{_≡_}
 use mathlib.Core.Logic.{_≢_}
 use Prim.Native.Nat.{ℕ, zero, suc, _+_, _≤_, _<_}
+use Rattle.lists.specs.Lists.{zeros}
 use Rattle.walks.specs.Label.{Net}
 
 -- a settled junction has a label and waits no longer
@@ -10,16 +11,15 @@ pub record Settled (L K : ℕ → ℕ) (v : ℕ) : Type 0 where
   pub labelled : 0 < L v
   pub taken : K v ≡ 0
 
--- 0 for the label and the key of a settled junction, 1 for others
-abbrev pub due : ℕ → ℕ → ℕ
-due zero k = 1
-due (suc l) zero = 0
-due (suc l) (suc k) = 1
+-- 1 for the label and the key of a settled junction, 0 for others
+abbrev pub tally : ℕ → ℕ → ℕ
+tally zero k = 0
+tally (suc l) zero = 1
+tally (suc l) (suc k) = 0
 
 -- how many junctions below n are not settled: what is left of the search
 abbrev pub unsettled : (ℕ → ℕ) → (ℕ → ℕ) → ℕ → ℕ
-unsettled L K zero = 0
-unsettled L K (suc n) = due (L n) (K n) + unsettled L K n
+unsettled L K n = zeros (λ v. tally (L v) (K v)) n
 
 -- how the label of v came about: by its way, from a junction that was settled before v
 pub record Via (N : Net) (rank L W K : ℕ → ℕ) (v : ℕ) : Type 0 where

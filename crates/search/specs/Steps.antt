@@ -4,34 +4,17 @@ use mathlib.Core.Bool.{Bool, true, false}
 use mathlib.Core.List.{List}
 use Prim.Native.Nat.{ℕ, _+_, _*_, _/_, _%_, _^_, _≤_, _<_, max}
 use lib.Dec.{ltb}
-use lib.ListN.{length}
-use Rattle.battery.specs.Ready.{Ranged}
-use Rattle.battery.specs.Rule.{mostBattery}
-use Rattle.battery.specs.declared.Road.{Road}
-use Rattle.frontier.specs.Frontier.{places, keysFrom, entry, keyAt, Put, Frontier, Top}
-use Rattle.network.specs.Check.{recordsFault}
-use Rattle.network.specs.Files.{junctions, roadCount, mostJunctions, mostRoads}
-use Rattle.network.specs.declared.Checked.the-variants.{Passed}
+use Rattle.lists.specs.Lists.{entry, Same, Put}
+use Rattle.frontier.specs.Frontier.{places, keyAt, Frontier, Top}
+use Rattle.network.specs.Files.{junctions, roadCount}
 use Rattle.walks.specs.Label.{Net}
+use Rattle.reading.specs.Asks.{Readable}
+use Rattle.reading.specs.Reading.{mostLabel, psi, net}
+use Rattle.reading.specs.declared.Reading.{Reading}
+use Rattle.search.specs.Sizes.{mostPlaces, Sized}
 use Rattle.search.specs.Chains.{Chained}
-use Rattle.search.specs.Reading.{psi, net}
 use Rattle.search.specs.State.{Busy}
 use Rattle.search.specs.declared.Offer.{Offer}
-use Rattle.search.specs.declared.Reading.{Reading}
-
--- the files have passed the network check, and the battery size is in range
-pub record Readable (M : ℕ) (ns rs : List ℕ) : Type 0 where
-  pub battery-le : M ≤ mostBattery
-  pub few : junctions ns ≤ mostJunctions
-  pub few-roads : roadCount rs ≤ mostRoads
-  pub checked : recordsFault ns rs ≡ Passed
-
--- a road's step asks for a label where the road is entered
-pub record StepAsks (M : ℕ) (r : Road) (label : ℕ) : Type 0 where
-  pub some : 0 < label
-  pub label-le : label ≤ M + 1
-  pub battery-le : M ≤ mostBattery
-  pub ranged : Ranged r
 
 -- the key of a junction that waits, without its place
 abbrev pub waiting : List ℕ → ℕ → ℕ
@@ -43,13 +26,7 @@ packed key v = key * places + v
 
 pub record KeyAsks (ns : List ℕ) (v : ℕ) : Type 0 where
   pub within : v < junctions ns
-  pub few : junctions ns ≤ mostJunctions
-
--- the search's lists: one place for each junction
-pub record Sized (labels ways queue : List ℕ) : Type 0 where
-  pub long-labels : length labels ≡ mostJunctions
-  pub long-ways : length ways ≡ mostJunctions
-  pub long-queue : length queue ≡ keysFrom + mostJunctions
+  pub few : junctions ns ≤ mostPlaces
 
 -- the queue with its greatest key
 pub record Queued (queue : List ℕ) (top : ℕ) : Type 0 where
@@ -60,7 +37,7 @@ pub record Queued (queue : List ℕ) (top : ℕ) : Type 0 where
 pub record Underway (rd : Reading) (labels ways queue : List ℕ) (top : ℕ) : Type 0 where
   pub sized : Sized labels ways queue
   pub queued : Queued queue top
-  pub bounded : (v : ℕ) → entry labels v ≤ rd .battery + 1
+  pub bounded : (v : ℕ) → entry labels v ≤ mostLabel (rd .battery)
   pub real : (v : ℕ) → 0 < keyAt queue v → 0 < waiting queue v
 
 abbrev pub choose : Bool → ℕ → ℕ → ℕ
@@ -76,12 +53,9 @@ better old new x y = choose (ltb old new) x y
 pub record OfferAsks (labels ways queue : List ℕ) (top v : ℕ) (o : Offer) : Type 0 where
   pub sized : Sized labels ways queue
   pub queued : Queued queue top
-  pub within : v < mostJunctions
+  pub within : v < mostPlaces
   pub key-small : o .key < 2 ^ 63
   pub tells : o .key % places ≡ v
-
-abbrev pub Same : (ℕ → ℕ) → (ℕ → ℕ) → Type 0
-Same f f' = (i : ℕ) → f' i ≡ f i
 
 -- the offer is taken where it betters the label, and only there
 pub data Change (L W K : ℕ → ℕ) (v label road key : ℕ) (L' W' K' : ℕ → ℕ) : Type 0 where
@@ -101,7 +75,7 @@ pub record RelaxAsks (rd : Reading) (ns rs : List ℕ) (k label : ℕ) (labels w
   pub underway : Underway rd labels ways queue top
   pub road : k < roadCount rs
   pub some : 0 < label
-  pub label-le : label ≤ rd .battery + 1
+  pub label-le : label ≤ mostLabel (rd .battery)
 
 -- what road k brings its end v from the label
 abbrev pub Relaxed : Net → (ℕ → ℕ) → ℕ → ℕ → (ℕ → ℕ) → (ℕ → ℕ) → (ℕ → ℕ) → (ℕ → ℕ) → (ℕ → ℕ) → (ℕ → ℕ) → Type 0
@@ -119,7 +93,7 @@ pub record SpreadAsks (rd : Reading) (ns rs chains : List ℕ) (u : ℕ) (labels
   pub readable : Readable (rd .battery) ns rs
   pub chained : Chained (net rd rs .roads) (roadCount rs) chains
   pub underway : Underway rd labels ways queue top
-  pub within : u < mostJunctions
+  pub within : u < mostPlaces
   pub some : 0 < entry labels u
 
 -- from road p on down to road q of u, for a search from any source with any label

@@ -1,26 +1,12 @@
 // The search for the best label of each junction. A label is an amount plus one, and 0 is none.
 ghost use mathlib.Core.Path.{_≡_};
-ghost use Prim.Native.Nat.{_+_, _^_, _<_, min};
+ghost use Prim.Native.Nat.{_+_, _^_, _<_};
 ghost use Rattle.network.specs.Files.{junctions, roadCount};
+ghost use Rattle.reading.specs.Reading.{psi, net};
 ghost use Rattle.search.specs.Chains.{Chained, ChainAsks};
-ghost use Rattle.search.specs.Reading.{entered, left, stepForward, stepBackward, stepOf, psiForward, psiBackward, psiOf, psi, net};
 ghost use Rattle.search.specs.Searches.{ExploreAsks, Explored, SeekAsks, LabelAsks, Labels};
-ghost use Rattle.search.specs.Steps.{StepAsks, better, packed, KeyAsks, OfferAsks, Offered, RelaxAsks, RelaxKeeps, SpreadAsks, SpreadKeeps};
-use battery::Road;
-
-// In which sense roads are read: forward, from tail to head, a label being the charge that a van
-// has, plus one; or backward, from head to tail, a label being the slack, which is the battery size
-// less the charge that a van needs, plus one.
-pub enum Sense {
-    Forward,
-    Backward,
-}
-
-// How roads are read.
-pub struct Reading {
-    pub sense: Sense,
-    pub battery: u32,
-}
+ghost use Rattle.search.specs.Steps.{better, packed, KeyAsks, OfferAsks, Offered, RelaxAsks, RelaxKeeps, SpreadAsks, SpreadKeeps};
+use reading::Reading;
 
 // From where a search sets out and with what label, and the junction where it may stop. A target
 // that is no junction never stops it, and then every label is the best.
@@ -37,11 +23,16 @@ struct Offer {
     key: u64,
 }
 
-// The sizes of the queue and of the chains: a place for each junction; a link for each junction and
-// each road.
-pub const QUEUE: usize = frontier::KEYS + network::MOST_JUNCTIONS;
+// How long the lists are: a place for each junction, for its label, its key and the head of its
+// chain; and a way for each place.
+pub const MOST_PLACES: usize = network::MOST_JUNCTIONS;
 
-pub const CHAINS: usize = network::MOST_JUNCTIONS + network::MOST_ROADS;
+pub const MOST_WAYS: usize = MOST_PLACES;
+
+// The queue has its tree besides, the chains a link for each road.
+pub const QUEUE: usize = frontier::KEYS + MOST_PLACES;
+
+pub const CHAINS: usize = MOST_PLACES + network::MOST_ROADS;
 
 // The best label of every junction, of all walks from the source with this label; 0 where none comes
 // there. The labels are all 0 at first.
@@ -57,12 +48,12 @@ pub fn label_all(
     ensures { λ _. ⌜ Labels (net reading (now (roads .entry))) source label (now (labels .exit)) ⌝ }
 {
     let mut chains = [0u16; CHAINS];
-    let mut ways = [0u16; network::MOST_JUNCTIONS];
+    let mut ways = [0u16; MOST_WAYS];
     let mut queue = [0u64; QUEUE];
     let trip = Trip {
         source,
         label,
-        target: network::MOST_JUNCTIONS,
+        target: MOST_PLACES,
     };
     seek(
         nodes,
@@ -104,7 +95,7 @@ pub fn chain(roads: &[u8], reading: Reading, chains: &mut [u16])
     let mut k = 0;
     while k < count {
         let v = reading.entered(network::road_at(roads, k));
-        chains[network::MOST_JUNCTIONS + k] = chains[v];
+        chains[MOST_PLACES + k] = chains[v];
         chains[v] = (k + 1) as u16;
         k += 1;
     }
@@ -163,7 +154,7 @@ fn spread(
     while 0 < next {
         let k = next - 1;
         best = relax(nodes, roads, reading, k, label, labels, ways, queue, best);
-        next = chains[network::MOST_JUNCTIONS + k] as usize;
+        next = chains[MOST_PLACES + k] as usize;
     }
     best
 }
@@ -239,100 +230,4 @@ fn better_key(old: u32, offer: Offer) -> u64
     ensures { λ r. ⌜ r ≡ better old (offer .label) 0 (offer .key) ⌝ }
 {
     if old < offer.label { offer.key } else { 0 }
-}
-
-impl Reading {
-    // The junction where a road is entered.
-    pub fn entered(self, road: Road) -> usize
-        ensures { λ r. ⌜ r ≡ entered (self .sense) road ⌝ }
-    {
-        let sense = self.sense;
-        match sense {
-            Sense::Forward => road.tail as usize,
-            Sense::Backward => road.head as usize,
-        }
-    }
-
-    // The junction where it is left.
-    pub fn left(self, road: Road) -> usize
-        ensures { λ r. ⌜ r ≡ left (self .sense) road ⌝ }
-    {
-        let sense = self.sense;
-        match sense {
-            Sense::Forward => road.head as usize,
-            Sense::Backward => road.tail as usize,
-        }
-    }
-
-    // The label that a road brings, from a label where it is entered.
-    fn step(self, road: Road, label: u32) -> u32
-        requires { ⌜ StepAsks (self .battery) road label ⌝ }
-        ensures { λ r. ⌜ r ≡ stepOf (self .sense) (self .battery) road label ⌝ }
-    {
-        let sense = self.sense;
-        match sense {
-            Sense::Forward => step_forward(self.battery, road, label),
-            Sense::Backward => step_backward(self.battery, road, label),
-        }
-    }
-
-    // The number of a junction, from its potential.
-    fn psi(self, potential: i32) -> u32
-        ensures { λ r. ⌜ r ≡ psiOf (self .sense) potential ⌝ }
-    {
-        let sense = self.sense;
-        match sense {
-            Sense::Forward => below_most(potential),
-            Sense::Backward => above_least(potential),
-        }
-    }
-}
-
-// By the battery rule: the smaller of charge - consumption and the battery size, as labels.
-fn step_forward(battery: u32, road: Road, label: u32) -> u32
-    requires { ⌜ StepAsks battery road label ⌝ }
-    ensures { λ r. ⌜ r ≡ stepForward battery road label ⌝ }
-{
-    let takes = numbers::drawn(road.consumption);
-    let has = label + numbers::gained(road.consumption);
-    if takes < has {
-        smaller(has - takes, battery + 1)
-    } else {
-        0
-    }
-}
-
-// The rule read backward: the smaller of slack - consumption and the battery size less the road's
-// own need, as labels.
-fn step_backward(battery: u32, road: Road, label: u32) -> u32
-    requires { ⌜ StepAsks battery road label ⌝ }
-    ensures { λ r. ⌜ r ≡ stepBackward battery road label ⌝ }
-{
-    let needs = numbers::drawn(road.consumption);
-    let has = label + numbers::gained(road.consumption);
-    if needs < has {
-        smaller(has - needs, battery + 1 - needs)
-    } else {
-        0
-    }
-}
-
-fn smaller(x: u32, y: u32) -> u32
-    ensures { λ r. ⌜ r ≡ min x y ⌝ }
-{
-    if x < y { x } else { y }
-}
-
-// How far a potential stands below the largest.
-fn below_most(potential: i32) -> u32
-    ensures { λ r. ⌜ r ≡ psiForward potential ⌝ }
-{
-    numbers::whole(2147483647 - potential as i64)
-}
-
-// How far a potential stands above the least.
-fn above_least(potential: i32) -> u32
-    ensures { λ r. ⌜ r ≡ psiBackward potential ⌝ }
-{
-    numbers::whole(potential as i64 + 2147483648)
 }

@@ -1,10 +1,10 @@
 -- The parameters of each export, as the question of its entry.
 use Prim.Native.Nat.{ℕ}
 use lib.IntN.{ℤ}
-use Rattle.depot.specs.declared.SetOffQuestion.{SetOffQuestion}
-use Rattle.planner.specs.declared.DriveQuestion.{DriveQuestion}
-use Rattle.planner.specs.declared.PlanQuestion.{PlanQuestion}
-use Rattle.planner.specs.declared.ProfileQuestion.{ProfileQuestion}
+use Rattle.promises.specs.declared.SetOffQuestion.{SetOffQuestion}
+use Rattle.promises.specs.declared.DriveQuestion.{DriveQuestion}
+use Rattle.promises.specs.declared.PlanQuestion.{PlanQuestion}
+use Rattle.promises.specs.declared.ProfileQuestion.{ProfileQuestion}
 
 abbrev pub planQuestion : ℤ → ℤ → ℕ → ℕ → PlanQuestion
 planQuestion m b u v = record { battery = m; start = b; source = u; target = v }

@@ -1,16 +1,16 @@
 // The C boundary: the five public entries under their C names. A file or a list is a pointer and a
 // length; the answers are the planner's numbers, by value. include/sedge.h declares them for C.
-ghost use Rattle.depot.specs.Promise.{SetsOff};
-ghost use Rattle.planner.specs.Promises.{Checks, Plans, Drives, Profiles};
+ghost use Rattle.promises.specs.Promises.{SetsOff};
+ghost use Rattle.promises.specs.Promises.{Checks, Plans, Drives, Profiles};
 ghost use Rattle.sedge.specs.Questions.{planQuestion, driveQuestion, profileQuestion, setOffQuestion};
-use depot::SetOffQuestion;
-use planner::CheckNumbers;
-use planner::DriveNumbers;
-use planner::DriveQuestion;
-use planner::PlanNumbers;
-use planner::PlanQuestion;
-use planner::ProfileNumbers;
-use planner::ProfileQuestion;
+use promises::CheckNumbers;
+use promises::DriveNumbers;
+use promises::DriveQuestion;
+use promises::PlanNumbers;
+use promises::PlanQuestion;
+use promises::ProfileNumbers;
+use promises::ProfileQuestion;
+use promises::SetOffQuestion;
 
 // Network check.
 #[no_mangle]

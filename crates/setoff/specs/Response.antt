@@ -1,27 +1,26 @@
--- What `setoff` writes, as bytes. `bad query` comes first, then `no file`, then the library.
+-- The program `setoff`: its line, and what it writes for it.
 use mathlib.Core.Path.{_≡_}
-use mathlib.Core.List.{List, [], _∷_}
+use mathlib.Core.List.{List}
 use Prim.Native.Nat.{ℕ}
-use lib.IntN.{ℤ}
-use lib.ListN.{length}
+use lib.IntN.{ℤ, pos}
+use lib.ListN.{length, getD}
 use Rattle.network.specs.Files.{junctions, mostJunctions}
-use Rattle.planner.specs.declared.CheckNumbers.{CheckNumbers}
-use Rattle.depot.specs.Promise.{SetsOff}
-use Rattle.lines.specs.Line.{Line, depotQuestion}
-use Rattle.text.specs.Answer.{setOffText, badQuery, noFile}
+use Rattle.promises.specs.declared.CheckNumbers.{CheckNumbers}
+use Rattle.promises.specs.Promises.{SetsOff}
+use Rattle.promises.specs.declared.SetOffQuestion.{SetOffQuestion}
+use Rattle.programs.specs.Program.{Program}
+use Rattle.text.specs.Answer.{setOffText}
 
--- no line of a depot stands at the start of the bytes
-abbrev pub NoQuery : List ℕ → Type 0
-NoQuery line = (m d : ℕ) → Line (m ∷ d ∷ []) line → ⊥
+-- the numbers of the line: battery, depot
+abbrev pub question : List ℕ → SetOffQuestion
+question ms = record { battery = pos (getD ms 0 0); depot = getD ms 1 0 }
 
--- both files were read, their bytes are ns and rs: `bad query`, or else the text of an outcome that set off's promise allows on
--- these files and numbers, with a list lent to it that has an entry for any junction
-pub data Responds (line ns rs : List ℕ) : List ℕ → Type 0 where
-  bad : NoQuery line → Responds line ns rs badQuery
-  answered : (m d : ℕ) (list xs : List ℤ) (a : CheckNumbers) → Line (m ∷ d ∷ []) line → length list ≡ mostJunctions
-      → SetsOff ns rs (depotQuestion m d) list a xs → Responds line ns rs (setOffText a (junctions ns) xs)
+-- the text of an outcome that set off's promise allows on these files and numbers, with a list lent to it that has an entry for
+-- any junction
+pub data Writes (ms ns rs : List ℕ) : List ℕ → Type 0 where
+  outcome : (list xs : List ℤ) (a : CheckNumbers) → length list ≡ mostJunctions → SetsOff ns rs (question ms) list a xs
+      → Writes ms ns rs (setOffText a (junctions ns) xs)
 
--- a file could not be opened or read
-pub data WithoutFiles (line : List ℕ) : List ℕ → Type 0 where
-  bad : NoQuery line → WithoutFiles line badQuery
-  none : (m d : ℕ) → Line (m ∷ d ∷ []) line → WithoutFiles line noFile
+-- a line of two numbers
+abbrev pub setOffProgram : Program
+setOffProgram = record { count = 2; Writes = Writes }

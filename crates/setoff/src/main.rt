@@ -1,54 +1,50 @@
 // The program of the night crew: one line on standard input, nodes.bin and roads.bin from the current
 // folder, the charge to set off with from each junction on standard output. What is written is
-// decided by `respond` and `without_files`.
-ghost use Prim.Native.Nat.{_≤_};
-ghost use lib.ListN.{length, take};
+// decided by `respond`.
+ghost use mathlib.Core.Path.{_≡_};
+ghost use lib.ListN.{take};
 ghost use Rattle.io.specs.Counts.{Counts};
 ghost use Rattle.network.specs.Files.{mostJunctions};
-ghost use Rattle.text.specs.Writing.{mostRefusal, chargesRoom};
-ghost use Rattle.setoff.specs.Response.{Responds, WithoutFiles};
-use inputs::NODES_ROOM;
-use inputs::ROADS_ROOM;
+ghost use Rattle.programs.specs.Program.{Responds};
+ghost use Rattle.programs.specs.Shared.{Small, Lent};
+ghost use Rattle.text.specs.Room.{chargesRoom};
+ghost use Rattle.setoff.specs.Response.{question, setOffProgram};
 use libc::STDOUT_FILENO;
-use lines::AskedDepot;
-use network::Checked;
+use programs::Begun;
+use programs::MOST_NUMBER;
+use programs::NODES_ROOM;
+use programs::ROADS_ROOM;
+use promises::SetOffQuestion;
+use refusals::Checked;
 
-// The longest line of a depot: two numbers, each with the byte after it.
-const MOST_LINE: usize = 2 * (lines::MOST_DIGITS + 1);
+// The numbers of the line: battery, depot.
+const NUMBERS: usize = 2;
 
 fn main() {
-    let mut line = [0u8; MOST_LINE];
+    let mut line = [0u8; NUMBERS * MOST_NUMBER];
     let mut nodes = [0u8; NODES_ROOM];
     let mut roads = [0u8; ROADS_ROOM];
-    let n = inputs::read_line(&mut line);
-    let first = inputs::read_file(b"nodes.bin", &mut nodes);
-    let second = inputs::read_file(b"roads.bin", &mut roads);
-    let a = first.count;
-    let b = second.count;
-    if first.ok && second.ok {
-        let k = respond(&line[..n], &nodes[..a], &mut roads, b);
-        io::write_all(STDOUT_FILENO, &roads[..k]);
-    } else {
-        let k = without_files(&line[..n], &mut roads);
-        io::write_all(STDOUT_FILENO, &roads[..k]);
-    }
+    let read = programs::read_inputs(&mut line, &mut nodes, &mut roads);
+    let n = read.line;
+    let a = read.nodes;
+    let count = respond(&line[..n], read.files, &nodes[..a], &mut roads, read.roads);
+    io::write_all(STDOUT_FILENO, &roads[..count]);
 }
 
-// What is written once both files are read: how many bytes at the start of `roads`. The file of the
-// roads is its first `size` bytes; once there is an answer it is not read again, and the answer is
-// written over it.
-fn respond(line: &[u8], nodes: &[u8], roads: &mut [u8], size: usize) -> usize
-    requires { ⌜ Counts size (now roads) ⌝ }
-    requires { ⌜ chargesRoom mostJunctions ≤ length (now roads) ⌝ }
+// What is written: how many bytes at the start of `roads`. The file of the roads is its first `size`
+// bytes; once there is an answer it is not read again, and the answer is written over it.
+fn respond(line: &[u8], files: bool, nodes: &[u8], roads: &mut [u8], size: usize) -> usize
+    requires { ⌜ Lent (chargesRoom mostJunctions) size (now roads) ⌝ }
     ensures { λ r. ⌜ Counts r (now (roads .exit)) ⌝ }
-    ensures { λ r. ⌜ Responds (now (line .entry)) (now (nodes .entry)) (take size (now (roads .entry))) (take r (now (roads .exit))) ⌝ }
+    ensures { λ r. ⌜ Responds setOffProgram (now (line .entry)) files (now (nodes .entry)) (take size (now (roads .entry))) (take r (now (roads .exit))) ⌝ }
 {
-    let asked = lines::read_depot(line);
-    let AskedDepot::Depot(question) = asked else {
-        return text::write_bad_query(roads);
-    };
+    let mut numbers = [0u64; NUMBERS];
+    let begun = programs::begin(line, files, &mut numbers, roads);
+    if let Begun::Written(count) = begun {
+        return count;
+    }
     let mut list = [0i32; network::MOST_JUNCTIONS];
-    let answer = depot::set_off(nodes, &roads[..size], question, &mut list);
+    let answer = depot::set_off(nodes, &roads[..size], asked(&numbers), &mut list);
     let given = planner::check_numbers(answer);
     let Checked::Passed = answer else {
         return text::write_refusal(roads, given.number, given.place);
@@ -57,15 +53,13 @@ fn respond(line: &[u8], nodes: &[u8], roads: &mut [u8], size: usize) -> usize
     text::write_charges(roads, &list[..count])
 }
 
-// What is written where a file cannot be opened or read.
-fn without_files(line: &[u8], out: &mut [u8]) -> usize
-    requires { ⌜ mostRefusal ≤ length (now out) ⌝ }
-    ensures { λ r. ⌜ Counts r (now (out .exit)) ⌝ }
-    ensures { λ r. ⌜ WithoutFiles (now (line .entry)) (take r (now (out .exit))) ⌝ }
+// What the line asks.
+fn asked(numbers: &[u64; NUMBERS]) -> SetOffQuestion
+    requires { ⌜ Small (now numbers) ⌝ }
+    ensures { λ r. ⌜ r ≡ question (now (numbers .entry)) ⌝ }
 {
-    let asked = lines::read_depot(line);
-    match asked {
-        AskedDepot::Depot(_) => text::write_no_file(out),
-        AskedDepot::Bad => text::write_bad_query(out),
+    SetOffQuestion {
+        battery: numbers[0] as i64,
+        depot: numbers[1],
     }
 }

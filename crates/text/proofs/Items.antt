@@ -1,31 +1,17 @@
--- The lines of a list of items, put one after another, and how long a number's line is. Assumes nothing.
+-- The lines of a list of items, put one after another. Assumes nothing.
 use mathlib.Core.Path.{_≡_, refl, sym, ap, _∙_}
 use mathlib.Core.List.{List, [], _∷_, _++_, append-assoc, append-nil}
-use Prim.Native.Nat.{ℕ, suc, _+_, _*_, _^_, _≤_, _<_}
+use Prim.Native.Nat.{ℕ, _+_, _*_, _≤_, _<_}
 use native.Mathlib.Nat.{mul-add}
 use native.Mathlib.Numerals.{add-one}
 use native.Mathlib.Omega.{arith}
-use lib.ListN.{length, take, getD, length-append}
+use lib.ListN.{length, take, getD}
 use lib.Seq.{take-suc, take-length}
-use Rattle.lines.specs.Line.{newline}
-use Rattle.text.specs.Answer.{numberLine, itemLines}
-use Rattle.text.specs.Decimal.{decimal}
-use Rattle.text.specs.Writing.{Puts}
-use Rattle.text.proofs.Decimal.{spell-length}
-use Rattle.text.proofs.Writing.{puts-none, puts-then, puts-as}
+use Rattle.digits.specs.Puts.{Puts}
+use Rattle.digits.proofs.Writing.{puts-none, puts-then, puts-as}
+use Rattle.text.specs.Answer.{itemLines}
 
--- a number of at most k + 1 digits, on a line
-line-length : (n k : ℕ) → n < 10 ^ suc k → length (numberLine n) ≤ suc (suc k)
-line-length n k h = let l = length-append (decimal n) (newline ∷ []) in omega (arith, spell-length 19 n k h)
-
--- a road's number has at most five, a number of 32 bits at most ten
-pub road-line : (n : ℕ) → n < 65536 → length (numberLine n) ≤ 6
-road-line n h = line-length n 4 (omega arith)
-
-pub wide-line : (n : ℕ) → n < 2 ^ 32 → length (numberLine n) ≤ 11
-wide-line n h = line-length n 9 (omega arith)
-
--- ---- items, each on a line of at most so many bytes
+-- each item on a line of at most so many bytes
 module _ {A : Type 0} (line : A → List ℕ) (most : ℕ) where
   -- the lines of the first i items are put, up to `to`
   pub record Listing (o : List ℕ) (from : ℕ) (items : List A) (o' : List ℕ) (to i : ℕ) : Type 0 where

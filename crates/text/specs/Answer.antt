@@ -1,15 +1,15 @@
--- The lines that a program writes.
+-- The answers of best route and set off, as text.
 use mathlib.Core.List.{List, [], _∷_, _++_}
-use Prim.Native.Nat.{ℕ, suc, _-_}
+use Prim.Native.Nat.{ℕ, _-_}
 use mathlib.Core.Bool.{cond}
 use lib.Dec.{eqb}
-use lib.IntN.{ℤ, pos, negsuc}
+use lib.IntN.{ℤ}
 use lib.ListN.{take}
 use Rattle.network.specs.Files.{mostJunctions}
-use Rattle.planner.specs.declared.CheckNumbers.{CheckNumbers}
-use Rattle.planner.specs.declared.PlanNumbers.{PlanNumbers}
-use Rattle.lines.specs.Line.{space, newline}
-use Rattle.text.specs.Decimal.{decimal}
+use Rattle.promises.specs.declared.CheckNumbers.{CheckNumbers}
+use Rattle.promises.specs.declared.PlanNumbers.{PlanNumbers}
+use Rattle.digits.specs.Line.{space}
+use Rattle.digits.specs.Decimal.{decimal, numberLine, wordLine, signedLine}
 
 -- the most roads of a route: it visits no junction twice
 abbrev pub mostRoute : ℕ
@@ -33,29 +33,6 @@ roads = 114 ∷ 111 ∷ 97 ∷ 100 ∷ 115 ∷ []
 
 abbrev pub refused : List ℕ
 refused = 114 ∷ 101 ∷ 102 ∷ 117 ∷ 115 ∷ 101 ∷ 100 ∷ []
-
--- `bad query` and `no file`, each on a line
-abbrev pub badQuery : List ℕ
-badQuery = 98 ∷ 97 ∷ 100 ∷ space ∷ 113 ∷ 117 ∷ 101 ∷ 114 ∷ 121 ∷ newline ∷ []
-
-abbrev pub noFile : List ℕ
-noFile = 110 ∷ 111 ∷ space ∷ 102 ∷ 105 ∷ 108 ∷ 101 ∷ newline ∷ []
-
--- a number on a line
-abbrev pub numberLine : ℕ → List ℕ
-numberLine n = decimal n ++ (newline ∷ [])
-
--- a word with a space and its number, on a line
-abbrev pub wordLine : List ℕ → ℕ → List ℕ
-wordLine w n = w ++ (space ∷ numberLine n)
-
--- a signed number on a line: a minus sign, the byte 45, before the size of a negative one
-abbrev pub minus : ℕ
-minus = 45
-
-abbrev pub signedLine : ℤ → List ℕ
-signedLine (pos n) = numberLine n
-signedLine (negsuc n) = minus ∷ numberLine (suc n)
 
 -- items, one to a line
 unfoldable pub itemLines : {A : Type 0} → (A → List ℕ) → List A → List ℕ
@@ -81,11 +58,14 @@ routeText a ks =
 unfoldable pub refusedText : ℕ → ℕ → List ℕ
 refusedText number place = refused ++ (space ∷ (decimal number ++ (space ∷ numberLine place)))
 
--- what best route gives back, with the lent list after it: a success is written as a route, anything else as a refusal
-abbrev pub answerText : PlanNumbers → List ℕ → List ℕ
-answerText a xs = cond (eqb (a .number) 0) (routeText a (take (a .roads) xs)) (refusedText (a .number) (a .place))
+-- an answer of this number and place: a success is written as its text, anything else as a refusal
+abbrev pub outcomeText : ℕ → ℕ → List ℕ → List ℕ
+outcomeText number place success = cond (eqb number 0) success (refusedText number place)
 
--- what set off gives back, with the lent list after it and the count n of junctions: a success is written as the junctions'
--- numbers, anything else as a refusal
+-- what best route gives back, with the lent list after it
+abbrev pub answerText : PlanNumbers → List ℕ → List ℕ
+answerText a xs = outcomeText (a .number) (a .place) (routeText a (take (a .roads) xs))
+
+-- what set off gives back, with the count n of junctions and the lent list after it
 abbrev pub setOffText : CheckNumbers → ℕ → List ℤ → List ℕ
-setOffText a n xs = cond (eqb (a .number) 0) (signedLines (take n xs)) (refusedText (a .number) (a .place))
+setOffText a n xs = outcomeText (a .number) (a .place) (signedLines (take n xs))

@@ -1,4 +1,2 @@
-pub mod Decimal
 pub mod Answer
-pub mod Claims
-pub mod Writing
+pub mod Room

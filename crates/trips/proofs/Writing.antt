@@ -2,10 +2,11 @@
 use mathlib.Core.Path.{_≡_, refl, sym, ap, _∙_, subst}
 use mathlib.Core.List.{List, [], _∷_, _++_}
 use mathlib.Core.Logic.{_≢_}
-use Prim.Native.Nat.{ℕ, zero, suc, _+_, _-_, _≤_, _<_}
+use Prim.Native.Nat.{ℕ, suc, _+_, _-_, _≤_, _<_}
 use native.Mathlib.Omega.{arith}
 use lib.ListN.{length, set, take, drop, length-set, take-append-drop}
-use Rattle.frontier.specs.Frontier.{entry}
+use Rattle.lists.proofs.Stores.{set-take-end}
+use Rattle.lists.specs.Lists.{entry}
 use Rattle.walks.specs.Walk.{Roads}
 use Rattle.search.specs.Trails.{Trail}
 use Rattle.trips.specs.Ways.{TrailOf, Counted, WriteAsks, Written}
@@ -46,12 +47,6 @@ writing-none {ks = ks} list t =
       list-is = sym (take-append-drop (length ks) list);
     }
 
--- a store at the end of the first part
-set-end : (xs ys : List ℕ) (i e : ℕ) → i < length xs → set (take (suc i) xs ++ ys) i e ≡ take i xs ++ (e ∷ ys)
-set-end [] ys i e h = absurd (omega arith)
-set-end (x ∷ xs) ys zero e h = refl
-set-end (x ∷ xs) ys (suc i) e h = ap (λ (r : List ℕ). x ∷ r) (set-end xs ys i e (omega arith))
-
 pub writing-more : {R : Roads} {ways : List ℕ} {s v i : ℕ} {ks list list' : List ℕ} → Writing R ways s v i ks list list' → v ≢ s
     → i ≤ length list
     → Writing R ways s (R .tail (entry ways v)) (i - 1) ks list (set list' (i - 1) (entry ways v))
@@ -70,7 +65,7 @@ writing-more {ways = ways} {v = v} {i = i} {ks = ks} {list = list} {list' = list
       list-is =
           ap (λ (xs : List ℕ). set xs (i - 1) (entry ways v)) (w .list-is)
           ∙ ap (λ (m : ℕ). set (take m list ++ (w .walked .behind ++ drop (length ks) list)) (i - 1) (entry ways v)) (sym p)
-          ∙ set-end list (w .walked .behind ++ drop (length ks) list) (i - 1) (entry ways v) (omega arith);
+          ∙ set-take-end list (w .walked .behind ++ drop (length ks) list) (i - 1) (entry ways v) (omega arith);
     }
 
 pub writing-done : {R : Roads} {ways : List ℕ} {s v i : ℕ} {ks list list' : List ℕ} → Writing R ways s v i ks list list' → v ≡ s

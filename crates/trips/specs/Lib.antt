@@ -1,4 +1,3 @@
-pub mod Ways
 pub mod Asks
-pub mod Marks
+pub mod Ways
 pub mod Found

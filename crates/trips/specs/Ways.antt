@@ -3,7 +3,7 @@ use mathlib.Core.Path.{_≡_}
 use mathlib.Core.List.{List, [], _++_}
 use Prim.Native.Nat.{ℕ, _≤_, _<_}
 use lib.ListN.{length, drop}
-use Rattle.frontier.specs.Frontier.{entry}
+use Rattle.lists.specs.Lists.{entry}
 use Rattle.walks.specs.Walk.{Roads}
 use Rattle.search.specs.Trails.{Trail}
 

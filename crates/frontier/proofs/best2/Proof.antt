@@ -3,7 +3,7 @@ use mathlib.Core.Path.{refl}
 use Prim.Native.Nat.{_+_, _^_}
 use native.Mathlib.Omega.{arith}
 use borrow.Author.Needs.{needs}
-use Rattle.frontier.specs.Frontier.{entry}
+use Rattle.lists.specs.Lists.{entry}
 use Rattle.frontier.proofs.Level.{run-one, run-join, run-small}
 use Rattle.frontier.proofs.best2.Statement.{statement}
 use Rattle.frontier.proofs.best2.Tie as tie

@@ -3,7 +3,7 @@ use mathlib.Core.Path.{ap}
 use native.Mathlib.Omega.{arith}
 use borrow.Author.Needs.{needs}
 use lib.ListN.{set}
-use Rattle.frontier.proofs.Stores.{small-set}
+use Rattle.frontier.proofs.Small.{small-set}
 use Rattle.frontier.proofs.lift.Statement.{statement}
 use Rattle.frontier.proofs.lift.Tie as tie
 

@@ -3,7 +3,7 @@ use native.Mathlib.Omega.{arith}
 use borrow.Author.Needs.{needs}
 use lib.ListN.{set, length-set}
 use Rattle.frontier.proofs.Queue.{regrouped}
-use Rattle.frontier.proofs.Stores.{small-set}
+use Rattle.frontier.proofs.Small.{small-set}
 use Rattle.frontier.proofs.regroup.Statement.{statement}
 use Rattle.frontier.proofs.regroup.Tie as tie
 

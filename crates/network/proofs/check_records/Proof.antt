@@ -5,10 +5,11 @@ use mathlib.Core.List.{List}
 use Prim.Native.Nat.{ℕ, _≤_, _-_}
 use native.Mathlib.Omega.{arith}
 use borrow.Author.Needs.{needs}
-use Rattle.network.specs.Check.{firstFrom, recordFault, recordsFault}
+use Rattle.refusals.proofs.Faults.{from-go, from-stop, from-end}
+use Rattle.refusals.specs.Order.{firstFrom}
+use Rattle.refusals.specs.declared.Checked.{Checked}
+use Rattle.network.specs.Check.{recordFault, recordsFault}
 use Rattle.network.specs.Files.{roadCount, roadOf}
-use Rattle.network.specs.declared.Checked.{Checked}
-use Rattle.network.proofs.Faults.{from-go, from-stop, from-end}
 use Rattle.network.proofs.check_records.Statement.{statement}
 use Rattle.network.proofs.check_records.Tie as tie
 

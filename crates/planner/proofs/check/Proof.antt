@@ -4,10 +4,10 @@ use mathlib.Core.List.{List}
 use Prim.Native.Nat.{ℕ}
 use borrow.Author.Needs.{needs}
 use Rattle.network.specs.Check.{checkFault}
-use Rattle.network.specs.declared.Checked.{Checked}
-use Rattle.network.specs.declared.Checked.the-variants.{Passed, Refused}
-use Rattle.planner.specs.Given.{checkNumbers}
-use Rattle.planner.specs.Promises.{Checks}
+use Rattle.refusals.specs.declared.Checked.{Checked}
+use Rattle.refusals.specs.declared.Checked.the-variants.{Passed, Refused}
+use Rattle.promises.specs.Given.{checkNumbers}
+use Rattle.promises.specs.Promises.{Checks}
 use Rattle.planner.proofs.check.Statement.{statement}
 use Rattle.planner.proofs.check.Tie as tie
 

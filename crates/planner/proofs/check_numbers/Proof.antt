@@ -1,8 +1,8 @@
 -- `planner::check_numbers` meets its contract. Assumes nothing.
 use mathlib.Core.Path.{sym, ap, _∙_}
 use borrow.Author.Needs.{needs}
-use Rattle.planner.specs.Given.{checkNumbers}
-use Rattle.planner.specs.declared.CheckNumbers.{CheckNumbers}
+use Rattle.promises.specs.Given.{checkNumbers}
+use Rattle.promises.specs.declared.CheckNumbers.{CheckNumbers}
 use Rattle.planner.proofs.check_numbers.Statement.{statement}
 use Rattle.planner.proofs.check_numbers.Tie as tie
 

@@ -6,20 +6,19 @@ use Rattle.numbers.proofs.Bits.{back64}
 use Rattle.numbers.specs.Signed.{draw}
 use Rattle.battery.specs.Drive.{fresh}
 use Rattle.battery.specs.declared.Van.{Van}
-use Rattle.network.specs.Check.{firstOf}
-use Rattle.network.specs.declared.Checked.the-variants as checked
+use Rattle.refusals.specs.declared.Checked.the-variants as checked
 use Rattle.routes.specs.Steps.{DriveAsks, DriveKeeps}
-use Rattle.planner.specs.Before.{beforeDrive}
-use Rattle.planner.specs.Order.{vanOf}
-use Rattle.planner.proofs.Cleared.{both-whole, drive-cleared}
-use Rattle.planner.proofs.Entries.{drive-refused, drive-asks, drive-kept}
+use Rattle.promises.specs.Order.{batteryOf, vanOf}
+use Rattle.promises.proofs.Bits.{battery-bits, start-bits}
+use Rattle.promises.proofs.Passed.{drive-passed}
+use Rattle.planner.proofs.Entries.{driveTests, drive-refused, drive-asks, drive-kept}
 use Rattle.planner.proofs.drive.Statement.{statement}
 use Rattle.planner.proofs.drive.Tie as tie
 
 -- once the tests have passed
 passed : (c : tie.After-enum-told) →
     let a = c .before .before .before .before .before .before .args in
-    firstOf (beforeDrive (a .nodes .now) (a .roads .now) (a .question) (length (a .route .now))) ≡ checked.Passed
+    driveTests (a .nodes .now) (a .roads .now) (a .question) (a .route .now) ≡ checked.Passed
 passed c = sym (c .before .before .check-drive .ensures) ∙ c .enum-told .given .1
 
 returns : tie.Need-returns
@@ -31,15 +30,16 @@ van-of-requires : tie.Need-van-of-requires
 van-of-requires c κs =
     let t = c .before .before in
     let a = t .before .before .before .before .before .before .args in
-    let d = drive-cleared (a .nodes .now) (a .roads .now) (a .question) (length (a .route .now)) (passed t) in
-    both-whole (a .question .battery) (a .question .start) (c .before .struct-told .given .0 .1) (c .struct-told2 .given .1 .0 .1)
-    (d .0 .battery-ok) (d .1)
+    let d = drive-passed (a .nodes .now) (a .roads .now) (a .question) (length (a .route .now)) (passed t) in (
+      battery-bits (a .question .battery) (c .before .struct-told .given .0 .1) (d .0 .battery-ok),
+      start-bits (a .question .battery) (a .question .start) (c .struct-told2 .given .1 .0 .1) (d .0 .battery-ok) (d .1),
+    )
 
 -- the van that sets out
 van-is : (c : tie.After-van-of) → c .van-of .result ≡ vanOf (c .before .before .before .before .before .before .before .before .before .args .question)
 van-is c =
     let a = c .before .before .before .before .before .before .before .before .before .args in
-    let p = ap draw (back64 {z = a .question .battery} (c .before .before .struct-told .given .0 .1)) in
+    let p = ap batteryOf (back64 {z = a .question .battery} (c .before .before .struct-told .given .0 .1)) in
     let q = ap draw (back64 {z = a .question .start} (c .before .struct-told2 .given .1 .0 .1)) in
     c .van-of .ensures ∙ (λ i. fresh (p i) (q i))
 

@@ -2,7 +2,7 @@
 use mathlib.Core.Path.{refl, subst}
 use borrow.Author.Needs.{needs}
 use Rattle.routes.specs.Steps.{DriveKeeps}
-use Rattle.planner.proofs.OneOutcome.{not-both}
+use Rattle.refusals.proofs.Faults.{not-both}
 use Rattle.planner.proofs.drive_found.Statement.{statement}
 use Rattle.planner.proofs.drive_found.Tie as tie
 

@@ -1,8 +1,8 @@
 -- `planner::drive_numbers` meets its contract. Assumes nothing.
 use mathlib.Core.Path.{sym, ap, _∙_}
 use borrow.Author.Needs.{needs}
-use Rattle.planner.specs.Given.{driveNumbers}
-use Rattle.planner.specs.declared.DriveNumbers.{DriveNumbers}
+use Rattle.promises.specs.Given.{driveNumbers}
+use Rattle.promises.specs.declared.DriveNumbers.{DriveNumbers}
 use Rattle.planner.proofs.drive_numbers.Statement.{statement}
 use Rattle.planner.proofs.drive_numbers.Tie as tie
 

@@ -9,35 +9,35 @@ use lib.Seq.{length-take-le}
 use Rattle.battery.specs.declared.Van.{Van}
 use Rattle.trips.specs.Asks.{FindAsks}
 use Rattle.trips.specs.declared.Found.{Found}
-use Rattle.planner.specs.Order.{planVan}
+use Rattle.promises.specs.Order.{planVan}
 use Rattle.planner.specs.Planning.{FoundAsks, FoundKeeps}
-use Rattle.planner.proofs.Cleared.{start-whole, plan-cleared}
+use Rattle.promises.proofs.Passed.{start-whole, plan-passed}
 use Rattle.planner.proofs.Searching.{tripFor, FindsFor, find-asks, plans-none, BestWalk, best-walk, count-le, found-asks, plans-route}
 use Rattle.planner.proofs.plan.Statement.{statement}
 use Rattle.planner.proofs.plan.Tie as tie
 
-add-t11 : tie.Need-add-t11
-add-t11 c =
-    let start = c .before .before .before .before in
+add-t12 : tie.Need-add-t12
+add-t12 c =
+    let start = c .before .before .before .before .before in
     let q = start .args .question in
-    let d = plan-cleared _ _ _ _ (start .pre .passed) in
+    let d = plan-passed _ _ _ _ (start .pre .passed) in
     let w = start-whole (q .battery) (q .start) (d .battery-ok) (d .start-ok) in
     omega (arith, ap (λ (v : Van). v .charge) (start .pre .van-is), w .0 .draw-le)
 
 find-requires : tie.Need-find-requires
 find-requires c κs =
-    let start = c .before .before .before .before .before in
+    let start = c .before .before .before .before .before .before in
     let a = start .args in
     subst (λ (v : Van). FindAsks (v .battery) (a .nodes .now) (a .roads .now) (tripFor (a .question) v) (a .list .now))
-    (sym (start .pre .van-is)) (find-asks _ _ _ _ (plan-cleared _ _ _ _ (start .pre .passed)))
+    (sym (start .pre .van-is)) (find-asks _ _ _ _ (plan-passed _ _ _ _ (start .pre .passed)))
 
 -- what the search found, of the van that sets out
 found : (looked : tie.After-find) →
-    let a = looked .before .before .before .before .before .before .args in
+    let a = looked .before .before .before .before .before .before .before .args in
     FindsFor (a .nodes .now) (a .roads .now) (a .question) (planVan (a .question)) (a .list .now) (looked .find .result)
     (looked .find .last .1 .1 .1 .1 .0)
 found looked =
-    let start = looked .before .before .before .before .before .before in
+    let start = looked .before .before .before .before .before .before .before in
     let a = start .args in
     subst
     (λ (v : Van). FindsFor (a .nodes .now) (a .roads .now) (a .question) v (a .list .now) (looked .find .result) (looked .find .last .1 .1 .1 .1 .0))
@@ -47,7 +47,7 @@ found looked =
 returns : tie.Need-returns
 returns c =
     let looked = c .before .before .before .before .before in
-    let start = looked .before .before .before .before .before .before in
+    let start = looked .before .before .before .before .before .before .before in
     let a = start .args in
     plans-none _ _ _ _ (start .pre .passed) _ _
     (subst
@@ -57,11 +57,11 @@ returns c =
 -- the route that was found
 best : (c : tie.After-known-told2) →
     let looked = c .before .before .before .before .before in
-    let a = looked .before .before .before .before .before .before .args in
+    let a = looked .before .before .before .before .before .before .before .args in
     BestWalk (a .nodes .now) (a .roads .now) (a .question) (a .list .now) (c .before .found2 .given .0 .0) (looked .find .last .1 .1 .1 .1 .0)
 best c =
     let looked = c .before .before .before .before .before in
-    let a = looked .before .before .before .before .before .before .args in
+    let a = looked .before .before .before .before .before .before .before .args in
     best-walk _ _ _ _ _ _
     (subst
     (λ (r : Found). FindsFor (a .nodes .now) (a .roads .now) (a .question) (planVan (a .question)) (a .list .now) r (looked .find .last .1 .1 .1 .1 .0))
@@ -70,14 +70,14 @@ best c =
 -- the list has room for it
 room : (c : tie.After-known-told2) → c .before .found2 .given .0 .0 ≤ length (c .before .before .before .before .before .find .last .1 .1 .1 .1 .0)
 room c =
-    let start = c .before .before .before .before .before .before .before .before .before .before .before in
+    let start = c .before .before .before .before .before .before .before .before .before .before .before .before in
     count-le _ _ _ _ (start .pre .passed) _ _ (best c)
 
 drive-found-requires : tie.Need-drive-found-requires
 drive-found-requires c κs =
     let told = c .before in
     let looked = told .before .before .before .before .before in
-    let start = looked .before .before .before .before .before .before in
+    let start = looked .before .before .before .before .before .before .before in
     let a = start .args in
     subst (FoundAsks (a .roads .now) (take (told .before .found2 .given .0 .0) (looked .find .last .1 .1 .1 .1 .0)) (a .question .source))
     (sym (start .pre .van-is)) (found-asks _ _ _ _ (start .pre .passed) _ _ (best told))
@@ -86,7 +86,7 @@ returns-2 : tie.Need-returns-2
 returns-2 c =
     let told = c .before .before in
     let looked = told .before .before .before .before .before in
-    let start = looked .before .before .before .before .before .before in
+    let start = looked .before .before .before .before .before .before .before in
     let a = start .args in
     plans-route _ _ _ _ (start .pre .passed) _ _ (best told) _
     (subst
@@ -97,7 +97,7 @@ pub plan-spec : {M : Type 1} → statement M
 plan-spec =
     tie.close
     (tie.spec
-    add-t11
+    add-t12
     find-requires
     (λ c. search needs)
     (λ c. search needs)

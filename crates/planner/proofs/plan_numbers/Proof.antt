@@ -1,8 +1,8 @@
 -- `planner::plan_numbers` meets its contract. Assumes nothing.
 use mathlib.Core.Path.{sym, ap, _∙_}
 use borrow.Author.Needs.{needs}
-use Rattle.planner.specs.Given.{planNumbers}
-use Rattle.planner.specs.declared.PlanNumbers.{PlanNumbers}
+use Rattle.promises.specs.Given.{planNumbers}
+use Rattle.promises.specs.declared.PlanNumbers.{PlanNumbers}
 use Rattle.planner.proofs.plan_numbers.Statement.{statement}
 use Rattle.planner.proofs.plan_numbers.Tie as tie
 

@@ -3,8 +3,8 @@ use mathlib.Core.Path.{sym, ap, _∙_}
 use borrow.Author.Needs.{needs}
 use lib.IntN.{pos}
 use Rattle.numbers.proofs.Bits.{back64}
-use Rattle.planner.specs.Given.{profileNumbers}
-use Rattle.planner.specs.declared.ProfileNumbers.{ProfileNumbers}
+use Rattle.promises.specs.Given.{profileNumbers}
+use Rattle.promises.specs.declared.ProfileNumbers.{ProfileNumbers}
 use Rattle.planner.proofs.profile_numbers.Statement.{statement}
 use Rattle.planner.proofs.profile_numbers.Tie as tie
 

@@ -1,7 +1,7 @@
 -- `routes::drive_place` meets its contract. Assumes nothing.
 use mathlib.Core.Path.{_≡_, sym, _∙_}
 use borrow.Author.Needs.{needs}
-use Rattle.network.specs.declared.Checked.the-variants.{Passed}
+use Rattle.refusals.specs.declared.Checked.the-variants.{Passed}
 use Rattle.routes.specs.Steps.{enters, drivePlace}
 use Rattle.routes.proofs.Driving.{ready}
 use Rattle.routes.proofs.Places.{is-road}

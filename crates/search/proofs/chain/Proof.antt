@@ -1,14 +1,15 @@
 -- `search::chain` meets its contract. Invariant: the roads below k are chained. Measure: the roads left. Assumes nothing.
 use mathlib.Core.Path.{_≡_}
-use Prim.Native.Nat.{_+_, _-_, _≤_, _<_}
+use Prim.Native.Nat.{_-_, _≤_, _<_}
 use native.Mathlib.Omega.{arith}
 use borrow.Author.Needs.{needs}
 use lib.ListN.{length, length-set}
-use Rattle.network.specs.Files.{roadCount, mostJunctions, mostRoads}
-use Rattle.search.proofs.Laws.{tail-at}
+use Rattle.network.specs.Files.{roadCount, mostRoads}
+use Rattle.reading.proofs.Net.{count-is, tail-at}
+use Rattle.reading.specs.Reading.{net}
+use Rattle.search.specs.Sizes.{mostPlaces, chainsSize}
 use Rattle.search.proofs.Linking.{chained-none, chained-more}
 use Rattle.search.specs.Chains.{Chained}
-use Rattle.search.specs.Reading.{net}
 use Rattle.search.proofs.chain.Statement.{statement}
 use Rattle.search.proofs.chain.Tie as tie
 
@@ -23,22 +24,21 @@ at-v : (c : tie.After-entered Inv-loop μ-loop) →
     let turn = c .before .before .before in
     let a = turn .before .before .before .args in
     c .entered .result ≡ net (a .reading) (a .roads .now) .roads .tail (turn .loop .k)
-at-v c = tail-at _ _ _ _ _ (c .entered .ensures) (c .before .road-at .ensures)
+at-v c = tail-at _ _ _ _ (c .before .road-at .ensures) (c .entered .ensures)
 
-within : (c : tie.After-entered Inv-loop μ-loop) → c .entered .result < mostJunctions
-unfolding net
+within : (c : tie.After-entered Inv-loop μ-loop) → c .entered .result < mostPlaces
 within c =
     let turn = c .before .before .before in
     let start = turn .before .before .before in
-    omega (arith, at-v c, start .pre .within (turn .loop .k) (c .before .before .loop-test .taken))
+    let n = count-is (start .args .reading) (start .args .roads .now) in
+    omega (arith, at-v c, start .pre .within (turn .loop .k) (omega (arith, c .before .before .loop-test .taken)))
 
 few : (c : tie.After-entered Inv-loop μ-loop) → c .before .before .before .loop .k < mostRoads
-unfolding net
 few c =
     let start = c .before .before .before .before .before .before in
-    omega (arith, c .before .before .loop-test .taken, start .pre .few)
+    omega (arith, c .before .before .loop-test .taken, start .pre .few, count-is (start .args .reading) (start .args .roads .now))
 
-long : (c : tie.After-entered Inv-loop μ-loop) → length (c .before .before .before .loop .chains) ≡ mostJunctions + mostRoads
+long : (c : tie.After-entered Inv-loop μ-loop) → length (c .before .before .before .loop .chains) ≡ chainsSize
 long c = c .before .before .before .loop .inv .1 .long
 
 loop-again : tie.Need-loop-again Inv-loop μ-loop

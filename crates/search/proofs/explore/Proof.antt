@@ -3,6 +3,7 @@
 -- Assumes nothing.
 use mathlib.Core.Path.{sym, _∙_}
 use native.Mathlib.Omega.{arith}
+use Rattle.search.proofs.Sizes.{places-fit}
 use Rattle.search.proofs.Exploring.{ExploreLoop, left-over, removes, spread-asks, explored-target, explore-next, explore-less, explored-all}
 use Rattle.search.proofs.Starting.{source-asks, first-raises, explore-start}
 use Rattle.search.proofs.explore.Statement.{statement}
@@ -21,12 +22,12 @@ abbrev μ-loop : tie.MeasureT-loop
 mul-labels : tie.Need-mul-labels Inv-loop μ-loop
 mul-labels c =
     let start = c .before .before .before .before .before .before in
-    omega (arith, start .pre .sets-out .source-in, start .pre .sets-out .readable .few)
+    omega (arith, start .pre .sets-out .source-in, places-fit (start .pre .sets-out .readable))
 
 slice-write-labels : tie.Need-slice-write-labels Inv-loop μ-loop
 slice-write-labels c =
     let start = c .before .before .before .before .before .before in
-    omega (arith, start .pre .sets-out .source-in, start .pre .sets-out .readable .few, start .pre .sized .long-labels)
+    omega (arith, start .pre .sets-out .source-in, places-fit (start .pre .sets-out .readable), start .pre .sized .long-labels)
 
 key-requires : tie.Need-key-requires Inv-loop μ-loop
 key-requires c κs = source-asks _ _ _ _ _ _ _ _ (c .before .before .before .before .before .before .pre)

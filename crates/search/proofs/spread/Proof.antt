@@ -3,8 +3,9 @@
 use mathlib.Core.Path.{sym, _∙_}
 use Prim.Native.Nat.{_+_, _-_, _<_}
 use native.Mathlib.Omega.{arith}
-use Rattle.frontier.specs.Frontier.{entry}
-use Rattle.network.specs.Files.{mostJunctions, mostRoads}
+use Rattle.lists.specs.Lists.{entry}
+use Rattle.network.specs.Files.{mostRoads}
+use Rattle.search.specs.Sizes.{mostPlaces}
 use Rattle.search.proofs.Spreading.{SpreadLoop, spread-start, is-road, relax-asks, falls, spread-next, spread-done}
 use Rattle.search.proofs.spread.Statement.{statement}
 use Rattle.search.proofs.spread.Tie as tie
@@ -46,7 +47,7 @@ road-in c =
 less : (c : tie.In-loop Inv-loop μ-loop) →
     let turn = c .before in
     let a = turn .before .before .before .before .before .before .before .before .before .args in
-    entry (a .chains .now) (mostJunctions + (turn .loop .next - 1)) < turn .loop .next
+    entry (a .chains .now) (mostPlaces + (turn .loop .next - 1)) < turn .loop .next
 less c =
     let turn = c .before in
     let start = turn .before .before .before .before .before .before .before .before .before in

@@ -1,7 +1,7 @@
 -- `search::take` meets its contract. Assumes nothing.
 use borrow.Author.Needs.{needs}
 use lib.Dec.{ltb}
-use Rattle.frontier.specs.Frontier.{entry}
+use Rattle.lists.specs.Lists.{entry}
 use Rattle.search.proofs.Offering.{raises, offered}
 use Rattle.search.proofs.take.Statement.{statement}
 use Rattle.search.proofs.take.Tie as tie

@@ -4,8 +4,9 @@ use Prim.Native.Nat.{_-_}
 use native.Mathlib.Omega.{arith}
 use borrow.Author.Needs.{needs}
 use lib.ListN.{length}
-use Rattle.text.specs.Answer.{numberLine}
-use Rattle.text.proofs.Items.{road-line, Listing, listing-none, listing-more, listing-all}
+use Rattle.digits.specs.Decimal.{numberLine}
+use Rattle.digits.proofs.Decimal.{short-line}
+use Rattle.text.proofs.Items.{Listing, listing-none, listing-more, listing-all}
 use Rattle.text.proofs.put_roads.Statement.{statement}
 use Rattle.text.proofs.put_roads.Tie as tie
 
@@ -25,7 +26,7 @@ loop-again : tie.Need-loop-again Inv-loop μ-loop
 loop-again c =
     let road = c .before .before .before .wide in
     let put = c .before .before .put-number-line in
-    listing-more numberLine 6 0 (c .before .before .before .before .before .before .before .loop .inv) (c .before .before .before .before .before .before .loop-test .taken) (road .ensures .0) (put .kept .0) (put .ensures .0) (omega (arith, put .ensures .0 .next, road-line (road .result) (road .ensures .1)))
+    listing-more numberLine 6 0 (c .before .before .before .before .before .before .before .loop .inv) (c .before .before .before .before .before .before .loop-test .taken) (road .ensures .0) (put .kept .0) (put .ensures .puts) (omega (arith, put .ensures .puts .next, short-line (road .result) (road .ensures .1)))
 
 pub put-roads-spec : {M : Type 1} → statement M
 put-roads-spec =

@@ -1,7 +1,7 @@
 -- `text::write_refusal` meets its contract. Assumes nothing.
 use borrow.Author.Needs.{needs}
 use Rattle.text.specs.Answer.{refusedText}
-use Rattle.text.proofs.Writing.{puts-then, puts-counts}
+use Rattle.digits.proofs.Writing.{puts-then, puts-written}
 use Rattle.text.proofs.write_refusal.Statement.{statement}
 use Rattle.text.proofs.write_refusal.Tie as tie
 
@@ -12,9 +12,8 @@ returns c =
     let space = line .before .before .before .before in
     let number = space .before .before .before .before .before in
     let word = number .before .before .before .before .put .ensures in
-    let all =
-    puts-then word (puts-then (number .put-decimal .ensures .0) (puts-then (space .put2 .ensures) (line .put-number-line .ensures .0))) in
-    (puts-counts all, all .text)
+    puts-written
+    (puts-then word (puts-then (number .put-decimal .ensures .puts) (puts-then (space .put2 .ensures) (line .put-number-line .ensures .puts))))
 
 pub write-refusal-spec : {M : Type 1} → statement M
 write-refusal-spec =

@@ -1,7 +1,7 @@
 -- `text::write_route` meets its contract. Assumes nothing.
 use borrow.Author.Needs.{needs}
 use Rattle.text.specs.Answer.{routeText}
-use Rattle.text.proofs.Writing.{puts-then, puts-counts}
+use Rattle.digits.proofs.Writing.{puts-then, puts-written}
 use Rattle.text.proofs.write_route.Statement.{statement}
 use Rattle.text.proofs.write_route.Tie as tie
 
@@ -14,12 +14,11 @@ returns c =
     let recovered = spilled .before .before .before .before .before in
     let drawn = recovered .before .before .before .before .before in
     let arrival = drawn .before .before .before .before .before in
-    let all =
-    puts-then (arrival .put-word-line .ensures .0)
-    (puts-then (drawn .put-word-line2 .ensures .0)
-    (puts-then (recovered .put-word-line3 .ensures .0)
-    (puts-then (spilled .put-word-line4 .ensures .0) (puts-then (roads .put-word-line5 .ensures .0) (last .put-roads .ensures))))) in
-    (puts-counts all, all .text)
+    puts-written
+    (puts-then (arrival .put-word-line .ensures .puts)
+    (puts-then (drawn .put-word-line2 .ensures .puts)
+    (puts-then (recovered .put-word-line3 .ensures .puts)
+    (puts-then (spilled .put-word-line4 .ensures .puts) (puts-then (roads .put-word-line5 .ensures .puts) (last .put-roads .ensures))))))
 
 pub write-route-spec : {M : Type 1} → statement M
 write-route-spec =

@@ -4,8 +4,8 @@ use Prim.Native.Nat.{ℕ}
 use native.Mathlib.Omega.{arith}
 use borrow.Author.Needs.{needs}
 use lib.ListN.{replicate, length-replicate}
-use Rattle.frontier.proofs.Empty.{zeros}
-use Rattle.network.specs.Files.{mostJunctions}
+use Rattle.lists.proofs.Stores.{new-zero}
+use Rattle.search.specs.Sizes.{mostPlaces}
 use Rattle.search.proofs.Seeking.{new-lent, new-asks, lent-on}
 use Rattle.trips.proofs.Finding.{reason-asks, finds-nowhere, trailed, write-asks, finds-route}
 use Rattle.trips.proofs.find.Statement.{statement}
@@ -13,7 +13,7 @@ use Rattle.trips.proofs.find.Tie as tie
 
 seek-requires : tie.Need-seek-requires
 seek-requires c κs =
-    new-asks _ _ _ _ _ (c .before .before .before .before .before .before .before .pre .sets-out) (length-replicate {A = ℕ} mostJunctions 0) (zeros mostJunctions)
+    new-asks _ _ _ _ _ (c .before .before .before .before .before .before .before .pre .sets-out) (length-replicate {A = ℕ} mostPlaces 0) (new-zero mostPlaces)
 
 reason-requires : tie.Need-reason-requires
 reason-requires c κs =
@@ -22,7 +22,7 @@ reason-requires c κs =
     let x = sought .seek in
     let k = x .kept .1 .1 .1 .1 in
     reason-asks _ _ _ _ _ (start .pre) _ _ _ (x .ensures) (c .before .before .before .before .if1 .taken) _
-    (lent-on (new-lent (replicate mostJunctions 0) (length-replicate {A = ℕ} mostJunctions 0)) (k .0) (k .1 .0) (k .1 .1 .0) (k .1 .1 .1 .0))
+    (lent-on (new-lent (replicate mostPlaces 0) (length-replicate {A = ℕ} mostPlaces 0)) (k .0) (k .1 .0) (k .1 .1 .0) (k .1 .1 .1 .0))
 
 returns : tie.Need-returns
 returns c =

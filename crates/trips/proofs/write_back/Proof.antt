@@ -4,10 +4,10 @@ use Prim.Native.Nat.{_-_, _<_}
 use native.Mathlib.Omega.{arith}
 use borrow.Author.Needs.{needs}
 use lib.ListN.{length}
-use Rattle.frontier.specs.Frontier.{entry}
+use Rattle.lists.specs.Lists.{entry}
 use Rattle.network.specs.Files.{roadCount}
-use Rattle.search.proofs.Laws.{tail-at, count-is}
-use Rattle.search.specs.Reading.{net}
+use Rattle.reading.proofs.Net.{tail-at, count-is}
+use Rattle.reading.specs.Reading.{net}
 use Rattle.trips.proofs.Trailing.{Further, further}
 use Rattle.trips.proofs.Writing.{WriteLoop, write-start, write-some, write-next, write-done}
 use Rattle.trips.proofs.write_back.Statement.{statement}
@@ -49,7 +49,7 @@ loop-again : tie.Need-loop-again Inv-loop μ-loop
 loop-again c =
     let tested = c .before .before .before in
     write-next (tested .before .loop .inv) (tested .loop-test .taken)
-    (tail-at _ _ _ _ _ (c .entered .ensures) (c .before .road-at .ensures))
+    (tail-at _ _ _ _ (c .before .road-at .ensures) (c .entered .ensures))
 
 pub write-back-spec : {M : Type 1} → statement M
 write-back-spec =

@@ -9,6 +9,7 @@ use mir.Syntax.{w32, w64}
 use mir.Val.{SFits, toZ, ofZ}
 use Rattle.numbers.specs.Signed.{draw, gain}
 use Rattle.numbers.proofs.Bits.{wide-fits, wide-back}
+use Rattle.battery.specs.declared.Battery.{Battery}
 use Rattle.battery.specs.declared.Road.{Road}
 use Rattle.battery.specs.declared.Profile.{Profile}
 use Rattle.battery.specs.declared.Passage.the-variants.{Passable}
@@ -22,7 +23,7 @@ module _ (c : tie.After-gained) where
   abbrev start : tie.Start
   start = c .before .before .before .before
 
-  abbrev battery : ℕ
+  abbrev battery : Battery
   battery = start .args .battery
 
   abbrev route : Profile
@@ -53,7 +54,7 @@ module _ (c : tie.After-gained) where
       ≡ route .sum +ℤ road .consumption
   sum-is = λ i. sum-back (start .pre) i +ℤ wide-back (used-fits (start .pre)) i
 
-  top-is : {over : ℕ} → over ≡ rest - battery → rest - over ≡ next battery route road .top
+  top-is : {over : ℕ} → over ≡ rest - battery .size → rest - over ≡ next battery route road .top
   top-is h =
       let e = takes in
       let f = gives in

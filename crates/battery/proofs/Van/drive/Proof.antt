@@ -32,21 +32,22 @@ returns c =
 
 add-left : tie.Need-add-left
 add-left c =
-    let e = takes (c .before .before .before) in
-    let f = gives (c .before .before .before) in
-    let p = c .before .before .before .before .before .before .before .pre in
+    let g = c .before .before .before .before in
+    let e = takes g in
+    let f = gives g in
+    let p = g .before .before .before .before .pre in
     omega (arith, p .ranged)
 
 returns-2 : tie.Need-returns-2
 unfolding driven
 returns-2 c =
-    let g = c .before .before .before .before .before .before .before in
+    let g = c .before .before .before .before .before .before .before .before in
     let s = g .before .before .before .before .args in
     let v = s .self in
     let z = s .road .consumption in
     let e = takes g in
     let f = gives g in
-    let h : draw z ≤ v .charge = omega (arith, c .before .before .before .before .before .if1 .left) in
+    let h : draw z ≤ v .charge = omega (arith, c .before .before .before .before .before .before .if1 .left) in
     let l = left-is (v .charge) z in
     let o = c .before .before .before .above .ensures in
     let x = c .before .before .before .above .result in

@@ -1,4 +1,4 @@
--- `rows::shown::charges` is safe. Invariant: i is a place of the list, or its end. Measure: the places left. Assumes nothing.
+-- `rows::shown::charges` is safe and ends. Measure: the places left. Assumes nothing.
 use Prim.Native.Nat.{_-_, _≤_}
 use borrow.Author.Needs.{needs}
 use lib.ListN.{length}
@@ -18,10 +18,13 @@ charges-spec =
     Inv-loop
     μ-loop
     (λ c. search needs)
+    (λ c κs. search needs)
+    (λ c. search needs)
     (λ c. search needs)
     (λ c. search needs)
     (λ c κs. search needs)
     (λ c. search needs)
     (λ c. search needs)
     (λ c. search needs)
+    (λ c κs. search needs)
     (λ c. search needs))

@@ -1,0 +1,3 @@
+pub mod Closed
+pub mod SetOff
+pub mod Reasons

@@ -1,0 +1,4 @@
+pub mod Walks
+pub mod SetOff
+pub mod Reasons
+pub mod Claims

@@ -1,3 +1,0 @@
-pub mod Spelled
-pub mod Taking
-pub mod Lines

@@ -1,4 +1,0 @@
-pub mod Digits
-pub mod Line
-pub mod Claims
-pub mod Taking

@@ -1,0 +1,12 @@
+pub mod Passed
+pub mod Bits
+pub mod Early
+pub mod OneOutcome
+pub mod OnePlan
+pub mod NoRoutes
+pub mod FixedRoute
+pub mod BestNoLess
+pub mod SameJunction
+pub mod NoLoop
+pub mod OneSetOff
+pub mod Below
