@@ -17,7 +17,7 @@ use Rattle.reading.specs.Reading.{backward, net}
 use Rattle.reading.proofs.Backward.{set-off, charge-some}
 use Rattle.reading.proofs.Net.{tails-in, heads-in, count-is, walk-back, walk-forth}
 use Rattle.search.specs.declared.Trip.{Trip}
-use Rattle.search.proofs.Sizes.{places-fit}
+use Rattle.search.proofs.Sizes.{junctions-fit}
 use Rattle.reasons.specs.Marks.{LeadAsks, Leads}
 use Rattle.reasons.specs.Asks.{AgainAsks, ReasonAsks}
 
@@ -44,10 +44,10 @@ module _ (B : Battery) (ns rs : List ℕ) (trip : Trip) (chains labels ways queu
       let n = count-is (backward B) rs in
       record {
         few-roads = omega (arith, n, r .few-roads);
-        tails-in = λ k h. omega (arith, tails-in (backward B) ns rs r k (omega (arith, n)), places-fit r);
-        heads-in = λ k h. omega (arith, heads-in (backward B) ns rs r k (omega (arith, n)), places-fit r);
-        source-in = omega (arith, places-fit r);
-        target-in = omega (arith, places-fit r);
+        tails-in = λ k h. omega (arith, tails-in (backward B) ns rs r k (omega (arith, n)), r .few, junctions-fit);
+        heads-in = λ k h. omega (arith, heads-in (backward B) ns rs r k (omega (arith, n)), r .few, junctions-fit);
+        source-in = omega (arith, r .few, junctions-fit);
+        target-in = omega (arith, r .few, junctions-fit);
         sizes = record { long-chains = c ∙ a .lent .long; long-labels = l ∙ a .lent .sized .long-labels };
         long-ways = w ∙ a .lent .sized .long-ways;
       }

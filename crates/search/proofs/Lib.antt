@@ -5,15 +5,18 @@ mod Counting
 mod Beginning
 -- it is kept where the junction with the greatest key is settled
 mod Settling
--- it is kept where a road of that junction is relaxed
+-- it is kept where a road of that junction brings no more than is there
+mod Busy
+-- and where it brings more: first what stays, then the whole
+mod Better
 mod Relaxing
 -- the ways lead back from a settled junction to the source
 mod Tracing
 -- at the end: the labels are the best, by the laws of the step
 mod Finishing
--- how long the lists are
-pub mod Sizes
 -- Then, over the lists, what the functions ask of each other and keep.
+-- what is known of the lists' sizes
+pub mod Sizes
 -- keys with their places
 mod Packing
 -- chain: one road more

@@ -11,13 +11,13 @@ use Rattle.reading.proofs.Net.{heads-in}
 use Rattle.reading.specs.Reading.{mostLabel, psi, net}
 use Rattle.reading.specs.declared.Reading.{Reading}
 use Rattle.search.specs.Steps.{waiting, packed, KeyAsks, Change, passed, taken, OfferAsks, Offered, RelaxAsks, Relaxed, RelaxKeeps}
-use Rattle.search.proofs.Sizes.{places-fit, keys-fit}
+use Rattle.search.proofs.Sizes.{junctions-fit, keys-fit}
 use Rattle.search.proofs.Packing.{packed-tells}
 
 module _ (rd : Reading) (ns rs : List ℕ) (k label : ℕ) (labels ways queue : List ℕ) (top : ℕ)
     (a : RelaxAsks rd ns rs k label labels ways queue top) (v : ℕ) (v-is : v ≡ net rd rs .roads .head k) where
   pub key-asks : KeyAsks ns v
-  key-asks = record { within = omega (arith, heads-in rd ns rs (a .readable) k (a .road)); few = places-fit (a .readable) }
+  key-asks = record { within = omega (arith, heads-in rd ns rs (a .readable) k (a .road)); few = omega (arith, a .readable .few, junctions-fit) }
 
   module _ (x key : ℕ) (x-is : x ≡ net rd rs .step k label) (key-is : key ≡ packed (x + psi rd ns v) v) (key-small : key < 2 ^ 63) where
     pub offer-asks : OfferAsks labels ways queue top v (record { road = k; label = x; key = key })

@@ -17,14 +17,14 @@ use Rattle.search.specs.Sizes.{mostPlaces, mostWays, queueSize, chainsSi
 use Rattle.search.specs.Chains.{Unchained, Chained, ChainAsks}
 use Rattle.search.specs.Searches.{SetsOut, ExploreAsks, Explored, SeekAsks, Labels}
 use Rattle.search.specs.declared.Trip.{Trip}
-use Rattle.search.proofs.Sizes.{places-fit}
+use Rattle.search.proofs.Sizes.{junctions-fit}
 
 pub chain-asks : (rd : Reading) (ns rs chains : List ℕ) → Readable (rd .battery) ns rs → length chains ≡ chainsSize
     → Unchained chains → ChainAsks (net rd rs .roads) chains
 chain-asks rd ns rs chains r long none =
     record {
       few = omega (arith, count-is rd rs, r .few-roads);
-      within = λ k h. omega (arith, tails-in rd ns rs r k (omega (arith, count-is rd rs)), places-fit r);
+      within = λ k h. omega (arith, tails-in rd ns rs r k (omega (arith, count-is rd rs)), r .few, junctions-fit);
       long = long;
       empty = none;
     }

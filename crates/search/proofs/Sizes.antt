@@ -1,18 +1,15 @@
 -- What the laws of the search and of its users know of the sizes of its lists; but for these, any sizes would do. Assumes
 -- nothing.
 use mathlib.Core.Path.{_≡_, refl}
-use mathlib.Core.List.{List}
-use Prim.Native.Nat.{ℕ, _%_, _≤_}
+use Prim.Native.Nat.{_%_, _≤_}
 use native.Mathlib.Omega.{arith}
-use Rattle.battery.specs.declared.Battery.{Battery}
 use Rattle.frontier.specs.Frontier.{places}
-use Rattle.network.specs.Files.{junctions}
-use Rattle.reading.specs.Asks.{Readable}
+use Rattle.network.specs.Files.{mostJunctions}
 use Rattle.search.specs.Sizes.{mostPlaces, mostWays, queueSize}
 
 -- junctions fit the places
-pub places-fit : {B : Battery} {ns rs : List ℕ} → Readable B ns rs → junctions ns ≤ mostPlaces
-places-fit r = omega (arith, r .few)
+pub junctions-fit : mostJunctions ≤ mostPlaces
+junctions-fit = omega arith
 
 -- places fit the ways
 pub ways-fit : mostPlaces ≤ mostWays

@@ -1,10 +1,10 @@
 -- The roads of the junction settled last, one after another along its chain. Assumes nothing.
-use mathlib.Core.Path.{_≡_, refl, sym, ap, _∙_, subst}
+use mathlib.Core.Path.{_≡_, refl, ap, _∙_, subst}
 use mathlib.Core.List.{List}
 use Prim.Native.Nat.{ℕ, suc, _+_, _-_, _/_, _≤_, _<_, max}
 use native.Mathlib.Decide.{decLt}
 use native.Mathlib.Omega.{arith}
-use Rattle.lists.specs.Lists.{entry, Same}
+use Rattle.lists.specs.Lists.{entry}
 use Rattle.frontier.specs.Frontier.{places, keyAt}
 use Rattle.network.specs.Files.{junctions, roadCount}
 use Rattle.walks.specs.Label.{Net, Laws}
@@ -15,23 +15,16 @@ use Rattle.reading.proofs.Net.{heads-in, count-is}
 use Rattle.search.specs.Chains.{previousOf, Link}
 use Rattle.search.specs.State.{Busy}
 use Rattle.search.specs.Steps.{waiting, packed, Underway, passed, taken, RelaxAsks, Relaxed, RelaxKeeps, SpreadAsks, Spreads, SpreadKeeps}
-use Rattle.search.proofs.Sizes.{places-fit, keys-fit}
+use Rattle.search.proofs.Sizes.{junctions-fit, keys-fit}
 use Rattle.search.proofs.Packing.{put-waiting}
-use Rattle.search.proofs.Relaxing.{pass, take, keeps-u}
+use Rattle.search.proofs.Better.{Betters, label-u}
+use Rattle.search.proofs.Busy.{busy-same, busy-pass, busy-skip}
+use Rattle.search.proofs.Relaxing.{busy-better}
 
 -- ---- one road
 
-module _ (N : Net) (psi : ℕ → ℕ) (n s l turns u k : ℕ) (lw : Laws N psi) (road : k < N .roads .count) (here : N .roads .tail k ≡ u)
+module _ {N : Net} {psi : ℕ → ℕ} {n s l turns u k : ℕ} (laws : Laws N psi) (road : k < N .roads .count) (here : N .roads .tail k ≡ u)
     (within : N .roads .head k < n) (few : n ≤ places) where
-  -- the same functions, one for the other
-  busy-same : (p : ℕ) (L W K L' W' K' : ℕ → ℕ) → Same L L' → Same W W' → Same K K'
-      → Busy N psi n s l turns u p L W K → Busy N psi n s l turns u p L' W' K'
-  busy-same p L W K L' W' K' a b c d =
-      let f : _≡_ {A = ℕ → ℕ} L L' = λ i v. sym (a v) i in
-      let g : _≡_ {A = ℕ → ℕ} W W' = λ i v. sym (b v) i in
-      let h : _≡_ {A = ℕ → ℕ} K K' = λ i v. sym (c v) i in
-      rw (← f, ← g, ← h) d
-
   module _ (label : ℕ) (L W L' W' : ℕ → ℕ) (queue queue' : List ℕ)
       (b : Busy N psi n s l turns u (suc k) L W (waiting queue)) (at-u : L u ≡ label) where
     brings : N .step k (L u) ≡ N .step k label
@@ -48,32 +41,26 @@ module _ (N : Net) (psi : ℕ → ℕ) (n s l turns u k : ℕ) (lw : Laws N psi)
     pub one-road : Relaxed N psi k label L W (keyAt queue) L' W' (keyAt queue')
         → Busy N psi n s l turns u k L' W' (waiting queue') × (L' u ≡ L u)
     one-road (passed h same-l same-w same-k) = (
-      busy-same k L W (waiting queue) L' W' (waiting queue') same-l same-w (λ i. ap (λ (y : ℕ). y / places) (same-k i))
-          (pass N psi n s l turns u k L W (waiting queue) b here (omega (arith, brings))),
+      busy-same same-l same-w (λ i. ap (λ (y : ℕ). y / places) (same-k i)) (busy-pass b here (omega (arith, brings))),
       same-l u,
     )
-    one-road (taken h put-l put-w put-k) =
-        let v = N .roads .head k in
-        let x = N .step k label in
-        let q = put-waiting queue queue' put-k (new-key v x (omega arith) h) in (
-          take N psi n s l turns u k L W (waiting queue) b here lw road v x refl within brings h L' W' (waiting queue') put-l put-w q,
-          keeps-u N psi n s l turns u k L W (waiting queue) b here lw road v x refl within brings h L' W' (waiting queue') put-l put-w q,
-        )
-
--- the next road of the chain: those between are entered elsewhere, so they count as relaxed
-skip : (N : Net) (psi : ℕ → ℕ) (n s l turns u p q : ℕ) (L W K : ℕ → ℕ) → Link (N .roads) u q p
-    → Busy N psi n s l turns u p L W K → Busy N psi n s l turns u q L W K
-skip N psi n s l turns u p q L W K k b =
-    record {
-      state = b .state;
-      settled = b .settled;
-      latest = b .latest;
-      relaxed = λ j h t m. b .relaxed j h t (λ e. from j (m e) e (decLt j p));
-    }
-  where
-    from : (j : ℕ) → q ≤ j → N .roads .tail j ≡ u → Dec (j < p) → p ≤ j
-    from j a e (yes h) = absurd (k .gap j a h e)
-    from j a e (no h) = omega arith
+    one-road (taken h put-l put-w put-k) = (busy-better r, label-u r)
+      where
+        r : Betters N psi n s l turns u k (N .roads .head k) (N .step k label) L W (waiting queue) L' W' (waiting queue')
+        r =
+            record {
+              laws = laws;
+              busy = b;
+              road = road;
+              tail-is = here;
+              head-is = refl;
+              head-in = within;
+              brings = brings;
+              more = h;
+              label = put-l;
+              way = put-w;
+              key = put-waiting queue queue' put-k (new-key (N .roads .head k) (N .step k label) (omega arith) h);
+            }
 
 -- ---- the loop: from the last road down to `next`
 
@@ -92,7 +79,7 @@ module _ (rd : Reading) (ns rs chains : List ℕ) (u : ℕ) (labels ways queue :
         underway = a .underway;
         low = k .low;
         hit = k .hit;
-        spreads = λ s l turns b. (skip _ _ _ _ _ _ _ _ _ _ _ _ k b, refl);
+        spreads = λ s l turns b. (busy-skip k b, refl);
       }
 
   module _ (next : ℕ) (labels₁ ways₁ queue₁ : List ℕ) (top₁ : ℕ)
@@ -130,12 +117,11 @@ module _ (rd : Reading) (ns rs chains : List ℕ) (u : ℕ) (labels ways queue :
           let e : next ≡ suc k = omega arith in
           let d = subst (λ (p : ℕ). Busy (net rd rs) (psi rd ns) (junctions ns) s l turns u p (entry labels₁) (entry ways₁) (waiting queue₁)) e (c .0) in
           let o =
-          one-road (net rd rs) (psi rd ns) (junctions ns) s l turns u k (laws rd ns rs (a .readable))
-          (omega (arith, is-road, count-is rd rs)) (i .hit k next-is) (heads-in rd ns rs (a .readable) k is-road)
-          (omega (arith, places-fit (a .readable), keys-fit)) (entry labels u) (entry labels₁) (entry ways₁) (entry labels₂) (entry ways₂)
-          queue₁ queue₂ d (c .1) (r .relaxed)
+          one-road (laws rd ns rs (a .readable)) (omega (arith, is-road, count-is rd rs)) (i .hit k next-is)
+          (heads-in rd ns rs (a .readable) k is-road) (omega (arith, a .readable .few, junctions-fit, keys-fit)) (entry labels u)
+          (entry labels₁) (entry ways₁) (entry labels₂) (entry ways₂) queue₁ queue₂ d (c .1) (r .relaxed)
           in
-          (skip _ _ _ _ _ _ _ _ _ _ _ _ previous (o .0), o .1 ∙ c .1)
+          (busy-skip previous (o .0), o .1 ∙ c .1)
 
       pub spread-next : SpreadLoop rd ns rs u (previousOf chains (next - 1)) labels ways queue labels₂ ways₂ queue₂ top₂
       spread-next =

@@ -13,17 +13,25 @@ use Rattle.network.specs.Files.{junctions}
 use Rattle.reading.specs.Reading.{mostLabel, psi, net}
 use Rattle.reading.specs.declared.Reading.{Reading}
 use Rattle.search.specs.Searches.{ExploreAsks}
+use Rattle.search.specs.Sizes.{mostPlaces}
 use Rattle.search.specs.Steps.{waiting, packed, KeyAsks}
 use Rattle.search.specs.declared.Trip.{Trip}
-use Rattle.search.proofs.Sizes.{places-fit, keys-fit, queue-whole}
+use Rattle.search.proofs.Sizes.{junctions-fit, keys-fit, queue-whole}
 use Rattle.search.proofs.Exploring.{ExploreLoop}
 use Rattle.search.proofs.Packing.{packed-tells, put-waiting}
 use Rattle.search.proofs.Beginning.{begin}
 
 module _ (rd : Reading) (ns rs chains : List ℕ) (trip : Trip) (labels₀ ways₀ queue₀ : List ℕ)
     (a : ExploreAsks rd ns rs chains trip labels₀ ways₀ queue₀) where
+  few : junctions ns ≤ mostPlaces
+  few = omega (arith, a .sets-out .readable .few, junctions-fit)
+
+  -- the source has a place
+  placed : trip .source < mostPlaces
+  placed = omega (arith, a .sets-out .source-in, few)
+
   pub source-asks : KeyAsks ns (trip .source)
-  source-asks = record { within = a .sets-out .source-in; few = places-fit (a .sets-out .readable) }
+  source-asks = record { within = a .sets-out .source-in; few = few }
 
   whole : length queue₀ % 8 ≡ 0
   whole = ap (λ (n : ℕ). n % 8) (a .sized .long-queue) ∙ queue-whole
@@ -34,11 +42,10 @@ module _ (rd : Reading) (ns rs chains : List ℕ) (trip : Trip) (labels₀ ways�
       record {
         frontier = empty queue₀ (a .no-key) (omega (arith, a .sized .long-queue)) whole;
         best = empty-top queue₀ (a .no-key);
-        within = omega (arith, a .sets-out .source-in, places-fit (a .sets-out .readable), a .sized .long-queue);
+        within = omega (arith, placed, a .sized .long-queue);
         key-small = small;
         tells =
-            λ _. ap (λ (n : ℕ). n % places) e
-            ∙ packed-tells _ (trip .source) (omega (arith, a .sets-out .source-in, places-fit (a .sets-out .readable), keys-fit));
+            λ _. ap (λ (n : ℕ). n % places) e ∙ packed-tells _ (trip .source) (omega (arith, placed, keys-fit));
       }
 
   module _ (key : ℕ) (key-is : key ≡ packed (trip .label + psi rd ns (trip .source)) (trip .source)) (queue : List ℕ) (top : ℕ)
@@ -48,10 +55,10 @@ module _ (rd : Reading) (ns rs chains : List ℕ) (trip : Trip) (labels₀ ways�
 
     put-label : Put (entry labels₀) (entry labels) (trip .source) (trip .label)
     unfolding labels
-    put-label = set-put labels₀ (omega (arith, a .sets-out .source-in, places-fit (a .sets-out .readable), a .sized .long-labels)) refl
+    put-label = set-put labels₀ (omega (arith, placed, a .sized .long-labels)) refl
 
     put-key : Put (waiting queue₀) (waiting queue) (trip .source) (trip .label + psi rd ns (trip .source))
-    put-key = put-waiting queue₀ queue (n .put) (omega (arith, a .no-key (keysFrom + trip .source), key-is, a .sets-out .source-in, places-fit (a .sets-out .readable), keys-fit))
+    put-key = put-waiting queue₀ queue (n .put) (omega (arith, a .no-key (keysFrom + trip .source), key-is, placed, keys-fit))
 
     bounded : (v : ℕ) → Dec (v ≡ trip .source) → entry labels v ≤ mostLabel (rd .battery)
     bounded v (yes e) = omega (arith, ap (entry labels) e, put-label .here, a .sets-out .label-le)

@@ -15,7 +15,7 @@ use Rattle.search.specs.Sizes.{mostWays, Lent}
 use Rattle.search.specs.Searches.{Explored}
 use Rattle.search.specs.Trails.{Route}
 use Rattle.search.specs.declared.Trip.{Trip}
-use Rattle.search.proofs.Sizes.{places-fit, ways-fit}
+use Rattle.search.proofs.Sizes.{junctions-fit, ways-fit}
 use Rattle.reasons.specs.Asks.{ReasonAsks}
 use Rattle.trips.specs.Found.{BestOf, Finds, nowhere, route}
 use Rattle.trips.specs.Asks.{FindAsks}
@@ -48,10 +48,10 @@ module _ (B : Battery) (ns rs : List ℕ) (trip : Trip) (list : List ℕ) (a : F
     found = e .route some
 
     trail : TrailOf (net (forward B) rs .roads) ways (trip .source) (trip .target) (found .by)
-    trail = trail-wider (omega (arith, places-fit (a .sets-out .readable), ways-fit)) (found .trail)
+    trail = trail-wider (omega (arith, a .sets-out .readable .few, junctions-fit, ways-fit)) (found .trail)
 
     pub trailed : Trailed (net (forward B) rs .roads) ways (trip .source) (trip .target)
-    trailed = record { by = found .by; trail = trail; few = omega (arith, found .few, places-fit (a .sets-out .readable), ways-fit) }
+    trailed = record { by = found .by; trail = trail; few = omega (arith, found .few, a .sets-out .readable .few, junctions-fit, ways-fit) }
 
     pub write-asks : (count : ℕ) → Counted (net (forward B) rs .roads) ways (trip .source) (trip .target) count
         → WriteAsks (net (forward B) rs .roads) ways (trip .source) (trip .target) count list

@@ -53,17 +53,18 @@ pub fn find(nodes: &[u8], roads: &[u8], battery: Battery, trip: Trip, list: &mut
         );
         return Found::Nowhere(reason);
     }
-    let count = count_back(roads, reading, &ways, trip.source, target);
-    write_back(roads, reading, &ways, trip.source, target, count, list);
+    let count = count_back(roads, reading, trip, &ways);
+    write_back(roads, reading, trip, &ways, count, list);
     Found::Roads(count)
 }
 
 // How many roads lead back by the ways from the target to the source.
-fn count_back(roads: &[u8], reading: Reading, ways: &[u16], source: usize, target: usize) -> usize
-    requires { ⌜ Trailed (net reading (now roads) .roads) (now ways) source target ⌝ }
-    ensures { λ r. ⌜ Counted (net reading (now (roads .entry)) .roads) (now (ways .entry)) source target r ⌝ }
+fn count_back(roads: &[u8], reading: Reading, trip: Trip, ways: &[u16]) -> usize
+    requires { ⌜ Trailed (net reading (now roads) .roads) (now ways) (trip .source) (trip .target) ⌝ }
+    ensures { λ r. ⌜ Counted (net reading (now (roads .entry)) .roads) (now (ways .entry)) (trip .source) (trip .target) r ⌝ }
 {
-    let mut v = target;
+    let source = trip.source;
+    let mut v = trip.target;
     let mut count = 0;
     while v != source {
         let k = ways[v];
@@ -77,16 +78,16 @@ fn count_back(roads: &[u8], reading: Reading, ways: &[u16], source: usize, targe
 fn write_back(
     roads: &[u8],
     reading: Reading,
+    trip: Trip,
     ways: &[u16],
-    source: usize,
-    target: usize,
     count: usize,
     list: &mut [u16],
 )
-    requires { ⌜ WriteAsks (net reading (now roads) .roads) (now ways) source target count (now list) ⌝ }
-    ensures { λ _. ⌜ Written (net reading (now (roads .entry)) .roads) (now (ways .entry)) source target (now (list .entry)) (now (list .exit)) ⌝ }
+    requires { ⌜ WriteAsks (net reading (now roads) .roads) (now ways) (trip .source) (trip .target) count (now list) ⌝ }
+    ensures { λ _. ⌜ Written (net reading (now (roads .entry)) .roads) (now (ways .entry)) (trip .source) (trip .target) (now (list .entry)) (now (list .exit)) ⌝ }
 {
-    let mut v = target;
+    let source = trip.source;
+    let mut v = trip.target;
     let mut i = count;
     while v != source {
         i -= 1;

@@ -1,5 +1,5 @@
 -- `reasons::mark` meets its contract. Invariant: the roads of u from `next` on are followed. Measure: next, which falls along the
--- chain. In a turn, `tested` is where it begins, `start` where u's roads begin. Assumes nothing.
+-- chain. In a turn, `tested` is where it begins. Assumes nothing.
 use mathlib.Core.Path.{_≡_, sym, _∙_}
 use mathlib.Core.Logic.{⊎-elim}
 use Prim.Native.Nat.{_+_, _-_, _<_}
@@ -8,6 +8,7 @@ use borrow.Author.Needs.{needs}
 use lib.ListN.{length}
 use Rattle.lists.specs.Lists.{entry}
 use Rattle.network.specs.Files.{mostRoads}
+use Rattle.walks.specs.Walk.{Roads}
 use Rattle.reading.specs.Reading.{net}
 use Rattle.reading.proofs.Net.{count-is, head-at}
 use Rattle.search.specs.Sizes.{mostPlaces}
@@ -26,49 +27,50 @@ abbrev μ-loop : tie.MeasureT-loop
 
 shared-slice-read-next : tie.Need-shared-slice-read-next Inv-loop μ-loop
 shared-slice-read-next c =
-    let start = c .before .before .before .before .before in
-    omega (arith, u-in _ _ _ _ _ _ (start .pre), start .pre .tracked .chained .long)
+    let p = c .before .before .before .before .before .pre in
+    omega (arith, u-in _ _ _ _ _ _ p, p .tracked .chained .long)
 
 cast-next : tie.Need-cast-next Inv-loop μ-loop
 cast-next c =
-    let start = c .before .before .before .before .before in
-    omega (arith, mark-start _ _ _ _ _ _ (start .pre) .low, start .pre .tracked .few-roads)
+    let p = c .before .before .before .before .before .pre in
+    omega (arith, mark-start _ _ _ _ _ _ p .low, p .tracked .few-roads)
 
--- ---- one road
+-- where u's roads begin, seen from a turn, and the roads
+abbrev start : tie.At-loop Inv-loop μ-loop → tie.Start Inv-loop μ-loop
+start turn = turn .before .before .before .before .before .before
 
--- the road in hand is one of the file
-road-in : (c : tie.In-loop Inv-loop μ-loop) →
-    let start = c .before .before .before .before .before .before .before in
-    c .before .loop .next - 1 < net (start .args .reading) (start .args .roads .now) .roads .count
-road-in c =
-    let start = c .before .before .before .before .before .before .before in
-    is-road _ _ _ _ _ _ (start .pre) _ _ _ _ (c .before .loop .inv) (c .loop-test .taken)
+abbrev R : tie.At-loop Inv-loop μ-loop → Roads
+R turn = net (start turn .args .reading) (start turn .args .roads .now) .roads
 
--- the next one stands lower
-less : (c : tie.In-loop Inv-loop μ-loop) →
-    let start = c .before .before .before .before .before .before .before in
-    entry (start .args .chains .now) (mostPlaces + (c .before .loop .next - 1)) < c .before .loop .next
-less c =
-    let start = c .before .before .before .before .before .before .before in
-    falls _ _ _ _ _ _ (start .pre) _ _ _ _ (c .before .loop .inv) (c .loop-test .taken)
+-- ---- one road: c is where the loop's test has passed
+
+module _ (c : tie.In-loop Inv-loop μ-loop) where
+  -- the road in hand is one of the file
+  road-in : c .before .loop .next - 1 < R (c .before) .count
+  road-in = is-road _ _ _ _ _ _ (start (c .before) .pre) _ _ _ _ (c .before .loop .inv) (c .loop-test .taken)
+
+  few : c .before .loop .next - 1 < mostRoads
+  few = omega (arith, road-in, start (c .before) .pre .tracked .few-roads)
+
+  -- the next one stands lower
+  less : entry (start (c .before) .args .chains .now) (mostPlaces + (c .before .loop .next - 1)) < c .before .loop .next
+  less = falls _ _ _ _ _ _ (start (c .before) .pre) _ _ _ _ (c .before .loop .inv) (c .loop-test .taken)
 
 road-at-requires : tie.Need-road-at-requires Inv-loop μ-loop
 road-at-requires c κs =
-    let a = c .before .before .before .before .before .before .before .args in
+    let a = start (c .before) .args in
     omega (arith, road-in c, count-is (a .reading) (a .roads .now))
 
 -- where it is left
 left-at : (c : tie.After-left Inv-loop μ-loop) →
     let turn = c .before .before .before in
-    let a = turn .before .before .before .before .before .before .args in
-    c .left .result ≡ net (a .reading) (a .roads .now) .roads .head (turn .loop .next - 1)
+    c .left .result ≡ R turn .head (turn .loop .next - 1)
 left-at c = head-at _ _ _ _ (c .before .road-at .ensures) (c .left .ensures)
 
 within : (c : tie.After-left Inv-loop μ-loop) → c .left .result < mostPlaces
 within c =
     let tested = c .before .before in
-    let start = tested .before .before .before .before .before .before .before in
-    omega (arith, left-at c, start .pre .tracked .within _ (road-in tested))
+    omega (arith, left-at c, start (tested .before) .pre .tracked .within _ (road-in tested))
 
 -- ---- a junction not yet marked
 
@@ -78,50 +80,30 @@ listed : (c : tie.Then1 Inv-loop μ-loop) →
     turn .loop .end < length (turn .loop .ways)
 listed c =
     let tested = c .before .before .before .before in
-    let start = tested .before .before .before .before .before .before .before in
-    room _ _ _ _ _ _ (start .pre) _ _ _ _ (tested .before .loop .inv) (tested .loop-test .taken) _ (left-at (c .before .before)) (c .if1 .taken)
+    room _ _ _ _ _ _ (start (tested .before) .pre) _ _ _ _ (tested .before .loop .inv) (tested .loop-test .taken) _ (left-at (c .before .before))
+    (c .if1 .taken)
 
 -- ---- the next road
-
-few : (c : tie.In-loop Inv-loop μ-loop) → c .before .loop .next - 1 < mostRoads
-few c = omega (arith, road-in c, c .before .before .before .before .before .before .before .pre .tracked .few-roads)
 
 shared-slice-read-next-2 : tie.Need-shared-slice-read-next-2 Inv-loop μ-loop
 shared-slice-read-next-2 c =
     let tested = c .before .before .before .before .before in
-    omega (arith, few tested, tested .before .before .before .before .before .before .before .pre .tracked .chained .long)
+    omega (arith, few tested, start (tested .before) .pre .tracked .chained .long)
 
 cast-next-2 : tie.Need-cast-next-2 Inv-loop μ-loop
 cast-next-2 c =
     let tested = c .before .before .before .before .before in
-    omega (arith, less tested, tested .before .loop .inv .low, tested .before .before .before .before .before .before .before .pre .tracked .few-roads)
+    omega (arith, less tested, tested .before .loop .inv .low, start (tested .before) .pre .tracked .few-roads)
 
 loop-again : tie.Need-loop-again Inv-loop μ-loop
 loop-again c =
     let tested = c .before .before .before .before .before in
-    let start = tested .before .before .before .before .before .before .before in
+    let p = start (tested .before) .pre in
     let i = tested .before .loop .inv in
     let some = tested .loop-test .taken in
     let e = left-at (c .before .before .before) in
-    ⊎-elim (λ w. mark-new _ _ _ _ _ _ (start .pre) _ _ _ _ i some _ e (w .0 .taken) (w .1) (w .2) (w .3))
-    (λ w. mark-passed _ _ _ _ _ _ (start .pre) _ _ _ _ i some _ e (w .0 .left) (w .1) (w .2) (w .3)) (c .before .if1 .came)
-
--- ---- the end
-
-same-length : tie.Need-same-length Inv-loop μ-loop
-same-length c =
-    let start = c .before .before .before .before .before .before .before in
-    c .before .loop .inv .long-labels ∙ sym (start .pre .tracked .long-labels)
-
-same-length-2 : tie.Need-same-length-2 Inv-loop μ-loop
-same-length-2 c =
-    let start = c .before .before .before .before .before .before .before in
-    c .before .loop .inv .long-ways ∙ sym (start .pre .tracked .long-ways)
-
-returns : tie.Need-returns Inv-loop μ-loop
-returns c =
-    let start = c .before .before .before .before .before .before .before in
-    mark-done _ _ _ _ _ _ (start .pre) _ _ _ _ (c .before .loop .inv) (omega (arith, c .loop-test .left))
+    ⊎-elim (λ w. mark-new _ _ _ _ _ _ p _ _ _ _ i some _ e (w .0 .taken) (w .1) (w .2) (w .3))
+    (λ w. mark-passed _ _ _ _ _ _ p _ _ _ _ i some _ e (w .0 .left) (w .1) (w .2) (w .3)) (c .before .if1 .came)
 
 pub mark-spec : {M : Type 1} → statement M
 mark-spec =
@@ -150,6 +132,6 @@ mark-spec =
     cast-next-2
     (λ c. less (c .before .before .before .before .before))
     loop-again
-    same-length
-    same-length-2
-    returns)
+    (λ c. c .before .loop .inv .long-labels ∙ sym (start (c .before) .pre .tracked .long-labels))
+    (λ c. c .before .loop .inv .long-ways ∙ sym (start (c .before) .pre .tracked .long-ways))
+    (λ c. mark-done _ _ _ _ _ _ (start (c .before) .pre) _ _ _ _ (c .before .loop .inv) (omega (arith, c .loop-test .left))))

@@ -3,7 +3,7 @@ use mathlib.Core.Path.{refl}
 use mathlib.Core.Logic.{inl}
 use native.Mathlib.Omega.{arith}
 use borrow.Author.Needs.{needs}
-use Rattle.search.proofs.Sizes.{places-fit}
+use Rattle.search.proofs.Sizes.{junctions-fit}
 use Rattle.reasons.proofs.Again.{clear-asks, seek-asks}
 use Rattle.reasons.proofs.seek_again.Statement.{statement}
 use Rattle.reasons.proofs.seek_again.Tie as tie
@@ -20,7 +20,7 @@ seek-requires c κs =
 mul-result : tie.Need-mul-result
 mul-result c =
     let start = c .before .before .before .before .before .before .before .before .before .before .before .before .before .before .before .before .before .before .before .before .before .before .before .before .before .before in
-    omega (arith, start .pre .target-in, places-fit (start .pre .sets-out .readable))
+    omega (arith, start .pre .target-in, start .pre .sets-out .readable .few, junctions-fit)
 
 slice-read-result : tie.Need-slice-read-result
 slice-read-result c =
@@ -30,7 +30,8 @@ slice-read-result c =
     omega (
       arith,
       start .pre .target-in,
-      places-fit (start .pre .sets-out .readable),
+      start .pre .sets-out .readable .few,
+      junctions-fit,
       start .pre .lent .sized .long-labels,
       cleared .clear .kept .1 .0,
       sought .seek .kept .1 .1 .1 .1 .1 .0,

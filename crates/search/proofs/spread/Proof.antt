@@ -1,5 +1,5 @@
 -- `search::spread` meets its contract. Invariant: the roads of u from `next` on are relaxed. Measure: next, which falls along
--- the chain. In a turn, `turn` is where it begins, `start` where u's roads begin. Assumes nothing.
+-- the chain. In a turn, `turn` is where it begins. Assumes nothing.
 use mathlib.Core.Path.{sym, _∙_}
 use Prim.Native.Nat.{_+_, _-_, _<_}
 use native.Mathlib.Omega.{arith}
@@ -21,90 +21,58 @@ abbrev μ-loop : tie.MeasureT-loop
 
 slice-read-label : tie.Need-slice-read-label Inv-loop μ-loop
 slice-read-label c =
-    let start = c .before .before .before .before .before .before .before in
-    omega (arith, start .pre .within, start .pre .underway .sized .long-labels)
+    let p = c .before .before .before .before .before .before .before .pre in
+    omega (arith, p .within, p .underway .sized .long-labels)
 
 shared-slice-read-next : tie.Need-shared-slice-read-next Inv-loop μ-loop
 shared-slice-read-next c =
-    let start = c .before .before .before .before .before .before .before .before in
-    omega (arith, start .pre .within, start .pre .chained .long)
+    let p = c .before .before .before .before .before .before .before .before .pre in
+    omega (arith, p .within, p .chained .long)
 
 cast-next : tie.Need-cast-next Inv-loop μ-loop
 cast-next c =
-    let start = c .before .before .before .before .before .before .before .before in
-    omega (arith, start .pre .chained .lasts _ (start .pre .within) .low, start .pre .readable .few-roads)
+    let p = c .before .before .before .before .before .before .before .before .pre in
+    omega (arith, p .chained .lasts _ (p .within) .low, p .readable .few-roads)
 
--- ---- one road
+-- where u's roads begin, seen from a turn
+abbrev start : tie.At-loop Inv-loop μ-loop → tie.Start Inv-loop μ-loop
+start turn = turn .before .before .before .before .before .before .before .before .before
 
--- the road in hand is one of the file
-road-in : (c : tie.In-loop Inv-loop μ-loop) → c .before .loop .next - 1 < mostRoads
-road-in c =
-    let turn = c .before in
-    let start = turn .before .before .before .before .before .before .before .before .before in
-    omega (arith, is-road _ _ _ _ _ _ _ _ _ (start .pre) _ _ _ _ _ (turn .loop .inv) (c .loop-test .taken), start .pre .readable .few-roads)
+-- ---- one road: c is where the loop's test has passed
 
--- the next one stands lower
-less : (c : tie.In-loop Inv-loop μ-loop) →
-    let turn = c .before in
-    let a = turn .before .before .before .before .before .before .before .before .before .args in
-    entry (a .chains .now) (mostPlaces + (turn .loop .next - 1)) < turn .loop .next
-less c =
-    let turn = c .before in
-    let start = turn .before .before .before .before .before .before .before .before .before in
-    falls _ _ _ _ _ _ _ _ _ (start .pre) _ _ _ _ _ (turn .loop .inv) (c .loop-test .taken)
+module _ (c : tie.In-loop Inv-loop μ-loop) where
+  -- the road in hand is one of the file
+  road-in : c .before .loop .next - 1 < mostRoads
+  road-in =
+      let p = start (c .before) .pre in
+      omega (arith, is-road _ _ _ _ _ _ _ _ _ p _ _ _ _ _ (c .before .loop .inv) (c .loop-test .taken), p .readable .few-roads)
+
+  -- the next one stands lower
+  less : entry (start (c .before) .args .chains .now) (mostPlaces + (c .before .loop .next - 1)) < c .before .loop .next
+  less = falls _ _ _ _ _ _ _ _ _ (start (c .before) .pre) _ _ _ _ _ (c .before .loop .inv) (c .loop-test .taken)
 
 relax-requires : tie.Need-relax-requires Inv-loop μ-loop
 relax-requires c κs =
     let tested = c .before .before .before in
     let turn = tested .before in
-    let start = turn .before .before .before .before .before .before .before .before .before in
-    relax-asks _ _ _ _ _ _ _ _ _ (start .pre) _ _ _ _ _ (turn .loop .inv) (tested .loop-test .taken)
+    relax-asks _ _ _ _ _ _ _ _ _ (start turn .pre) _ _ _ _ _ (turn .loop .inv) (tested .loop-test .taken)
 
 shared-slice-read-next-2 : tie.Need-shared-slice-read-next-2 Inv-loop μ-loop
 shared-slice-read-next-2 c =
     let tested = c .before .before .before .before .before .before .before .before .before .before .before in
-    let start = tested .before .before .before .before .before .before .before .before .before .before in
-    omega (arith, road-in tested, start .pre .chained .long)
+    omega (arith, road-in tested, start (tested .before) .pre .chained .long)
 
 cast-next-2 : tie.Need-cast-next-2 Inv-loop μ-loop
 cast-next-2 c =
     let tested = c .before .before .before .before .before .before .before .before .before .before .before in
-    let start = tested .before .before .before .before .before .before .before .before .before .before in
-    omega (arith, less tested, tested .before .loop .inv .low, start .pre .readable .few-roads)
+    omega (arith, less tested, tested .before .loop .inv .low, start (tested .before) .pre .readable .few-roads)
 
 loop-again : tie.Need-loop-again Inv-loop μ-loop
 loop-again c =
     let relaxed = c .before .before .before .before .before .before .before in
     let tested = relaxed .before .before .before .before in
     let turn = tested .before in
-    let start = turn .before .before .before .before .before .before .before .before .before in
-    spread-next _ _ _ _ _ _ _ _ _ (start .pre) _ _ _ _ _ (turn .loop .inv) (tested .loop-test .taken) _ _ _ _ (relaxed .relax .ensures)
-
--- ---- the end
-
-same-length : tie.Need-same-length Inv-loop μ-loop
-same-length c =
-    let turn = c .before in
-    let start = turn .before .before .before .before .before .before .before .before .before in
-    turn .loop .inv .underway .sized .long-labels ∙ sym (start .pre .underway .sized .long-labels)
-
-same-length-2 : tie.Need-same-length-2 Inv-loop μ-loop
-same-length-2 c =
-    let turn = c .before in
-    let start = turn .before .before .before .before .before .before .before .before .before in
-    turn .loop .inv .underway .sized .long-ways ∙ sym (start .pre .underway .sized .long-ways)
-
-same-length-3 : tie.Need-same-length-3 Inv-loop μ-loop
-same-length-3 c =
-    let turn = c .before in
-    let start = turn .before .before .before .before .before .before .before .before .before in
-    turn .loop .inv .underway .sized .long-queue ∙ sym (start .pre .underway .sized .long-queue)
-
-returns : tie.Need-returns Inv-loop μ-loop
-returns c =
-    let turn = c .before in
-    let start = turn .before .before .before .before .before .before .before .before .before in
-    spread-done _ _ _ _ _ _ _ _ _ (start .pre) _ _ _ _ _ (turn .loop .inv) (omega arith)
+    spread-next _ _ _ _ _ _ _ _ _ (start turn .pre) _ _ _ _ _ (turn .loop .inv) (tested .loop-test .taken) _ _ _ _ (relaxed .relax .ensures)
 
 pub spread-spec : {M : Type 1} → statement M
 spread-spec =
@@ -126,7 +94,7 @@ spread-spec =
     cast-next-2
     (λ c. less (c .before .before .before .before .before .before .before .before .before .before .before))
     loop-again
-    same-length
-    same-length-2
-    same-length-3
-    returns)
+    (λ c. c .before .loop .inv .underway .sized .long-labels ∙ sym (start (c .before) .pre .underway .sized .long-labels))
+    (λ c. c .before .loop .inv .underway .sized .long-ways ∙ sym (start (c .before) .pre .underway .sized .long-ways))
+    (λ c. c .before .loop .inv .underway .sized .long-queue ∙ sym (start (c .before) .pre .underway .sized .long-queue))
+    (λ c. spread-done _ _ _ _ _ _ _ _ _ (start (c .before) .pre) _ _ _ _ _ (c .before .loop .inv) (omega arith)))

@@ -14,16 +14,16 @@ use Rattle.trips.proofs.count_back.Statement.{statement}
 use Rattle.trips.proofs.count_back.Tie as tie
 
 abbrev Inv-loop : tie.InvT-loop
-Inv-loop roads reading ways source target v₀ count₀ v count = CountLoop (net reading roads .roads) ways source target v count
+Inv-loop roads reading ways source v₀ count₀ v count = CountLoop (net reading roads .roads) ways source v₀ v count
 
 abbrev μ-loop : tie.MeasureT-loop
-μ-loop roads reading ways source target v₀ count₀ v count = length ways - count
+μ-loop roads reading ways source v₀ count₀ v count = length ways - count
 
 -- the trail goes on from v
 more : (c : tie.In-loop Inv-loop μ-loop) →
     let turn = c .before in
     let a = turn .before .before .before .args in
-    Further (net (a .reading) (a .roads .now) .roads) (entry (a .ways .now)) (length (a .ways .now)) (a .source) (turn .loop .v)
+    Further (net (a .reading) (a .roads .now) .roads) (entry (a .ways .now)) (length (a .ways .now)) (a .trip .source) (turn .loop .v)
     (turn .loop .inv .walked .behind) (turn .loop .inv .by)
 more c = further (c .before .loop .inv .walked .trail) (c .loop-test .taken)
 

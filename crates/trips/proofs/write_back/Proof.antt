@@ -14,17 +14,17 @@ use Rattle.trips.proofs.write_back.Statement.{statement}
 use Rattle.trips.proofs.write_back.Tie as tie
 
 abbrev Inv-loop : tie.InvT-loop
-Inv-loop roads reading ways source target count list₀ v₀ i₀ list v i =
-    WriteLoop (net reading roads .roads) ways source target v i list₀ list
+Inv-loop roads reading ways count list₀ source v₀ i₀ list v i =
+    WriteLoop (net reading roads .roads) ways source v₀ v i list₀ list
 
 abbrev μ-loop : tie.MeasureT-loop
-μ-loop roads reading ways source target count list₀ v₀ i₀ list v i = i
+μ-loop roads reading ways count list₀ source v₀ i₀ list v i = i
 
 -- the trail goes on from v
 more : (c : tie.In-loop Inv-loop μ-loop) →
     let turn = c .before in
     let a = turn .before .before .before .before .args in
-    Further (net (a .reading) (a .roads .now) .roads) (entry (a .ways .now)) (length (a .ways .now)) (a .source) (turn .loop .v)
+    Further (net (a .reading) (a .roads .now) .roads) (entry (a .ways .now)) (length (a .ways .now)) (a .trip .source) (turn .loop .v)
     (turn .loop .inv .writing .walked .behind) (turn .loop .inv .by)
 more c = further (c .before .loop .inv .writing .walked .trail) (c .loop-test .taken)
 
