@@ -1,5 +1,5 @@
--- The roads of a file as they are read: what the methods of `Reading` give is what the network of labels has. Nothing above
--- this crate looks into `net`. Assumes nothing.
+-- The roads of a file as they are read: what the methods of `Reading` give is what the network of labels has, so that no
+-- search looks into `net`. Assumes nothing.
 use mathlib.Core.Path.{_≡_, refl, ap, _∙_}
 use mathlib.Core.List.{List, reverse}
 use Prim.Native.Nat.{ℕ, _≤_, _<_}
