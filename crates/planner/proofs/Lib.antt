@@ -1,2 +1,3 @@
 mod Entries
 mod Searching
+mod Listed

@@ -47,16 +47,16 @@ abbrev pub stepForward : Battery → Road → ℕ → ℕ
 stepForward B r zero = 0
 stepForward B r (suc b) = labelIf (drivable B b r) (chargeAfter B b r)
 
--- backward: to have n left at the head, a van needs the larger of n + c and the road's own need (the larger of 0 and c) at the
--- tail. With the slack x = M − n the road is passable where c ≤ x and its need ≤ M, and the slack at the tail is the smaller of
--- x − c and M − need
+-- backward, M being the battery size: to have n left at the head, a van needs the larger of n + c and the road's own need at
+-- the tail. With the slack x = M − n the road is passable where c ≤ x and its need ≤ M, and the slack at the tail is the smaller
+-- of x − c and M − need
 abbrev pub stepBackward : Battery → Road → ℕ → ℕ
 stepBackward B r zero = 0
 stepBackward B r (suc x) =
     labelIf (leZ (r .consumption) (pos x) && leb (needs B r) (B .size))
     (min (rule.left x (r .consumption)) (B .size - needs B r))
 
--- the charge that a backward label tells: M less the slack, and −1 where there is none
+-- the charge that a backward label tells: the battery size less the slack, and −1 where there is none
 abbrev pub chargeOf : Battery → ℕ → ℤ
 chargeOf B zero = negsuc 0
 chargeOf B (suc x) = pos (B .size - x)

@@ -1,13 +1,16 @@
-// The entries: each has a keyword, the kinds of its numbers, a list or none, and a call. What is
-// given back is printed in the order of the answer's fields.
-use crate::notation::I32;
-use crate::notation::I64;
-use crate::notation::NOWHERE;
-use crate::notation::U16;
-use crate::notation::U64;
+// The entries: each has a keyword (`entry_of`), some of four numbers (`has`) and a call, which prints
+// what is given back in the order of the answer's fields.
+use crate::files::Network;
+use crate::files::line_at;
+use crate::notation::ANY;
+use crate::notation::ENTRY;
+use crate::notation::JUNCTION;
+use crate::notation::Number;
+use crate::notation::ROAD;
 use crate::notation::after;
+use crate::notation::next_group;
 use crate::notation::read_list;
-use crate::notation::read_numbers;
+use crate::notation::read_number;
 use crate::shown;
 use bytes::scan::find;
 use promises::DriveQuestion;
@@ -15,86 +18,173 @@ use promises::PlanQuestion;
 use promises::ProfileQuestion;
 use promises::SetOffQuestion;
 
-// The most numbers of a question, and the most entries of a list.
-const MOST_NUMBERS: usize = 4;
+const CHECK: u8 = 0;
 
+const DRIVE: u8 = 1;
+
+const PROFILE: u8 = 2;
+
+const BEST_ROUTE: u8 = 3;
+
+const SET_OFF: u8 = 4;
+
+const UNKNOWN: u8 = 5;
+
+// The most entries of a list.
 const MOST_LIST: usize = routes::MOST_ENTRIES + 1;
 
-enum Entry {
-    Check,
-    Drive,
-    Profile,
-    BestRoute,
-    SetOff,
-    Unknown,
-}
-
-// A row: its name, and the rest of the line from the colon on. Answers whether it is in the notation.
-pub fn ask(name: &[u8], rest: &[u8], nodes: &[u8], roads: &[u8]) -> bool {
-    let from = after(rest, 0, b": ");
-    if rest.len() <= from {
+// A row: its name up to the colon, its keyword, its numbers and its list. Answers whether it is in
+// the notation.
+pub fn ask(text: &[u8], network: Network, line: &[u8], colon: usize) -> bool {
+    let from = after(line, after(line, colon, b':'), b' ');
+    if line.len() <= from {
         return false;
     }
-    let end = find(rest, from, rest.len(), b' ');
-    ask_entry(entry_of(&rest[from..end]), name, &rest[end..], nodes, roads)
+    let end = find(line, from, line.len(), b' ');
+    let entry = entry_of(&line[from..end]);
+    if entry == UNKNOWN {
+        return false;
+    }
+    ask_entry(text, network, line, entry, end)
 }
 
-fn entry_of(word: &[u8]) -> Entry {
+// The entry of a keyword.
+fn entry_of(word: &[u8]) -> u8 {
     if check::same(word, b"check") {
-        return Entry::Check;
+        return CHECK;
     }
     if check::same(word, b"drive") {
-        return Entry::Drive;
+        return DRIVE;
     }
     if check::same(word, b"profile") {
-        return Entry::Profile;
+        return PROFILE;
     }
     if check::same(word, b"best_route") {
-        return Entry::BestRoute;
+        return BEST_ROUTE;
     }
     if check::same(word, b"set_off") {
-        return Entry::SetOff;
+        return SET_OFF;
     }
-    Entry::Unknown
+    UNKNOWN
 }
 
-fn ask_entry(entry: Entry, name: &[u8], asked: &[u8], nodes: &[u8], roads: &[u8]) -> bool {
+// Whether an entry has a number: 0 is the battery, 1 the start, 2 the source or depot, 3 the target.
+fn has(entry: u8, number: usize) -> bool {
     match entry {
-        Entry::Check => check_row(name, asked, nodes, roads),
-        Entry::Drive => drive_row(name, asked, nodes, roads),
-        Entry::Profile => profile_row(name, asked, nodes, roads),
-        Entry::BestRoute => best_route_row(name, asked, nodes, roads),
-        Entry::SetOff => set_off_row(name, asked, nodes, roads),
-        Entry::Unknown => false,
+        CHECK => false,
+        BEST_ROUTE => true,
+        DRIVE => number < 3,
+        _ => number == 0 || number == 2,
     }
 }
 
-fn check_row(name: &[u8], asked: &[u8], nodes: &[u8], roads: &[u8]) -> bool {
-    if asked.len() != 0 {
-        return false;
-    }
-    let given = planner::check_numbers(planner::check(nodes, roads));
-    shown::numbers(name, [given.number, given.place, 0, 0, 0, 0, 0], 2);
-    shown::end();
-    true
+// The numbers from a place on, then the list.
+fn ask_entry(text: &[u8], network: Network, line: &[u8], entry: u8, at: usize) -> bool {
+    let battery = read_asked(line, at, has(entry, 0));
+    let start = read_asked(line, battery.next, has(entry, 1));
+    let source = read_asked(line, start.next, has(entry, 2));
+    let target = read_asked(line, source.next, has(entry, 3));
+    let asked = PlanQuestion {
+        battery: signed(battery.bits),
+        start: signed(start.bits),
+        source: source.bits,
+        target: target.bits,
+    };
+    ask_list(
+        text,
+        network,
+        line,
+        entry,
+        asked,
+        next_group(line, target.next),
+    )
 }
 
-fn drive_row(name: &[u8], asked: &[u8], nodes: &[u8], roads: &[u8]) -> bool {
-    let mut numbers = [0u64; MOST_NUMBERS];
-    let mut route = [0u16; MOST_LIST];
-    let at = read_numbers(asked, 0, &[I64, I64, U64], &mut numbers);
-    let count = read_roads(asked, after(asked, at, b" route"), &mut route);
+// The list from a place on.
+fn ask_list(
+    text: &[u8],
+    network: Network,
+    line: &[u8],
+    entry: u8,
+    asked: PlanQuestion,
+    at: usize,
+) -> bool {
+    let file = read_list(line, at, ENTRY);
+    let count = file.size / 2;
     if MOST_LIST < count {
         return false;
     }
+    if !takes(entry, count) {
+        return false;
+    }
+    let list = entries_of(&file.bytes);
+    ask_network(text, network, line, entry, asked, &list[0..count]);
+    true
+}
+
+// Whether an entry may have a list of this length.
+fn takes(entry: u8, count: usize) -> bool {
+    match entry {
+        CHECK => count == 0,
+        _ => true,
+    }
+}
+
+// The two files, and the row printed.
+fn ask_network(
+    text: &[u8],
+    network: Network,
+    line: &[u8],
+    entry: u8,
+    asked: PlanQuestion,
+    list: &[u16],
+) {
+    let nodes = read_list(line_at(text, network.junctions), 0, JUNCTION);
+    let roads = read_list(line_at(text, network.roads), 0, ROAD);
+    shown::name(line);
+    answer(
+        entry,
+        front(&nodes.bytes, nodes.size),
+        front(&roads.bytes, roads.size),
+        asked,
+        list,
+    );
+    shown::end();
+}
+
+// The first n bytes, or all there are.
+fn front(bytes: &[u8], n: usize) -> &[u8] {
+    if n <= bytes.len() {
+        &bytes[0..n]
+    } else {
+        bytes
+    }
+}
+
+// The numbers are those of a best route, as far as the entry has them; a depot is a source.
+fn answer(entry: u8, nodes: &[u8], roads: &[u8], asked: PlanQuestion, list: &[u16]) {
+    match entry {
+        CHECK => check(nodes, roads),
+        DRIVE => drive(nodes, roads, asked, list),
+        PROFILE => profile(nodes, roads, asked, list),
+        BEST_ROUTE => best_route(nodes, roads, asked, list),
+        _ => set_off(nodes, roads, asked, list),
+    }
+}
+
+fn check(nodes: &[u8], roads: &[u8]) {
+    let given = planner::check_numbers(planner::check(nodes, roads));
+    shown::numbers([given.number, given.place, 0, 0, 0, 0, 0], 2);
+}
+
+fn drive(nodes: &[u8], roads: &[u8], asked: PlanQuestion, route: &[u16]) {
     let question = DriveQuestion {
-        battery: signed(numbers[0]),
-        start: signed(numbers[1]),
-        source: numbers[2],
+        battery: asked.battery,
+        start: asked.start,
+        source: asked.source,
     };
-    let given = planner::drive_numbers(planner::drive(nodes, roads, question, &route[0..count]));
+    let given = planner::drive_numbers(planner::drive(nodes, roads, question, route));
     shown::numbers(
-        name,
         [
             given.number,
             given.place,
@@ -106,67 +196,34 @@ fn drive_row(name: &[u8], asked: &[u8], nodes: &[u8], roads: &[u8]) -> bool {
         ],
         6,
     );
-    shown::end();
-    true
 }
 
-fn profile_row(name: &[u8], asked: &[u8], nodes: &[u8], roads: &[u8]) -> bool {
-    let mut numbers = [0u64; MOST_NUMBERS];
-    let mut route = [0u16; MOST_LIST];
-    let at = read_numbers(asked, 0, &[I64, U64], &mut numbers);
-    let count = read_roads(asked, after(asked, at, b" route"), &mut route);
-    if MOST_LIST < count {
-        return false;
-    }
+fn profile(nodes: &[u8], roads: &[u8], asked: PlanQuestion, route: &[u16]) {
     let question = ProfileQuestion {
-        battery: signed(numbers[0]),
-        source: numbers[1],
+        battery: asked.battery,
+        source: asked.source,
     };
-    let given = planner::profile_numbers(planner::profile(
-        nodes,
-        roads,
-        question,
-        &route[0..count],
-    ));
+    let given = planner::profile_numbers(planner::profile(nodes, roads, question, route));
+    let sum = shown::bits(given.sum);
     shown::numbers(
-        name,
-        [
-            given.number,
-            given.place,
-            given.need,
-            shown::bits(given.sum),
-            given.top,
-            0,
-            0,
-        ],
+        [given.number, given.place, given.need, sum, given.top, 0, 0],
         5,
     );
-    shown::end();
-    true
 }
 
-fn best_route_row(name: &[u8], asked: &[u8], nodes: &[u8], roads: &[u8]) -> bool {
-    let mut numbers = [0u64; MOST_NUMBERS];
-    let mut list = [0u16; MOST_LIST];
-    let at = read_numbers(asked, 0, &[I64, I64, U64, U64], &mut numbers);
-    let count = read_roads(asked, after(asked, at, b" list"), &mut list);
+// The list is lent.
+fn best_route(nodes: &[u8], roads: &[u8], asked: PlanQuestion, list: &[u16]) {
+    let mut lent = copied(list);
+    let count = list.len();
     if MOST_LIST < count {
-        return false;
+        return;
     }
-    let question = PlanQuestion {
-        battery: signed(numbers[0]),
-        start: signed(numbers[1]),
-        source: numbers[2],
-        target: numbers[3],
-    };
-    best_route(name, nodes, roads, question, &mut list[0..count]);
-    true
+    best_route_with(nodes, roads, asked, &mut lent[0..count]);
 }
 
-fn best_route(name: &[u8], nodes: &[u8], roads: &[u8], question: PlanQuestion, list: &mut [u16]) {
-    let given = planner::plan_numbers(planner::best_route(nodes, roads, question, list));
+fn best_route_with(nodes: &[u8], roads: &[u8], asked: PlanQuestion, list: &mut [u16]) {
+    let given = planner::plan_numbers(planner::best_route(nodes, roads, asked, list));
     shown::numbers(
-        name,
         [
             given.number,
             given.place,
@@ -181,80 +238,77 @@ fn best_route(name: &[u8], nodes: &[u8], roads: &[u8], question: PlanQuestion, l
     shown::roads(list);
 }
 
-fn set_off_row(name: &[u8], asked: &[u8], nodes: &[u8], roads: &[u8]) -> bool {
-    let mut numbers = [0u64; MOST_NUMBERS];
-    let mut list = [0i32; MOST_LIST];
-    let at = read_numbers(asked, 0, &[I64, U64], &mut numbers);
-    let count = read_charges(asked, after(asked, at, b" list"), &mut list);
+// The list is lent, each entry as a charge.
+fn set_off(nodes: &[u8], roads: &[u8], asked: PlanQuestion, list: &[u16]) {
+    let mut charges = charges_of(list);
+    let count = list.len();
     if MOST_LIST < count {
-        return false;
+        return;
     }
-    let question = SetOffQuestion {
-        battery: signed(numbers[0]),
-        depot: numbers[1],
-    };
-    set_off(name, nodes, roads, question, &mut list[0..count]);
-    true
+    set_off_with(nodes, roads, asked, &mut charges[0..count]);
 }
 
-fn set_off(name: &[u8], nodes: &[u8], roads: &[u8], question: SetOffQuestion, list: &mut [i32]) {
+fn set_off_with(nodes: &[u8], roads: &[u8], asked: PlanQuestion, list: &mut [i32]) {
+    let question = SetOffQuestion {
+        battery: asked.battery,
+        depot: asked.source,
+    };
     let given = planner::check_numbers(depot::set_off(nodes, roads, question, list));
-    shown::numbers(name, [given.number, given.place, 0, 0, 0, 0, 0], 2);
+    shown::numbers([given.number, given.place, 0, 0, 0, 0, 0], 2);
     shown::charges(list);
 }
 
-// A list of roads; answers how many.
-fn read_roads(line: &[u8], at: usize, list: &mut [u16]) -> usize {
-    let mut file = [0u8; 2 * MOST_LIST];
-    let size = read_list(line, at, &[U16], &mut file);
-    if size == NOWHERE {
-        return NOWHERE;
+// A number that is asked for, or none.
+fn read_asked(line: &[u8], at: usize, is_asked: bool) -> Number {
+    if is_asked {
+        return read_number(line, after(line, at, b' '), ANY);
     }
-    fill_roads(list, &file);
-    size / 2
+    Number { bits: 0, next: at }
 }
 
-// A list of charges; answers how many.
-fn read_charges(line: &[u8], at: usize, list: &mut [i32]) -> usize {
-    let mut file = [0u8; 4 * MOST_LIST];
-    let size = read_list(line, at, &[I32], &mut file);
-    if size == NOWHERE {
-        return NOWHERE;
+// The entries of a route that these bytes hold.
+fn entries_of(bytes: &[u8]) -> [u16; MOST_LIST] {
+    let mut list = [0u16; MOST_LIST];
+    for i in 0..MOST_LIST {
+        list[i] = entry_at(bytes, i);
     }
-    fill_charges(list, &file);
-    size / 4
+    list
 }
 
-fn fill_roads(list: &mut [u16], file: &[u8]) {
-    let mut i = 0;
-    while i < list.len() {
-        list[i] = road_at(file, i);
-        i += 1;
-    }
-}
-
-fn fill_charges(list: &mut [i32], file: &[u8]) {
-    let mut i = 0;
-    while i < list.len() {
-        list[i] = charge_at(file, i);
-        i += 1;
-    }
-}
-
-fn road_at(file: &[u8], i: usize) -> u16 {
-    if i < file.len() / 2 {
-        numbers::u16_at(file, 2 * i)
+fn entry_at(bytes: &[u8], i: usize) -> u16 {
+    if i < bytes.len() / 2 {
+        numbers::u16_at(bytes, 2 * i)
     } else {
         0
     }
 }
 
-fn charge_at(file: &[u8], i: usize) -> i32 {
-    if i < file.len() / 4 {
-        numbers::i32_at(file, 4 * i)
-    } else {
-        0
+// The entries of a list, to be written over.
+fn copied(list: &[u16]) -> [u16; MOST_LIST] {
+    let mut copy = [0u16; MOST_LIST];
+    for i in 0..MOST_LIST {
+        if list.len() <= i {
+            return copy;
+        }
+        copy[i] = list[i];
     }
+    copy
+}
+
+// The same as charges.
+fn charges_of(list: &[u16]) -> [i32; MOST_LIST] {
+    let mut charges = [0i32; MOST_LIST];
+    for i in 0..MOST_LIST {
+        if list.len() <= i {
+            return charges;
+        }
+        charges[i] = charge_of(list[i]);
+    }
+    charges
+}
+
+fn charge_of(entry: u16) -> i32 {
+    entry as i32
 }
 
 // The signed number of these bits.

@@ -1,109 +1,70 @@
 // Runs the rows of standard input and prints what comes back: the rows of document 01, each refusal
-// of the five entries with its place and zeros, and the order of two faults present together. A row
-// is printed as its name, the numbers given back, and the lent list if there is one. The notation is
-// told at the head of the file `stdin`; a line that is not in it is printed as a bad row.
+// of the five entries with its place and zeros, and the order of two faults present together. A line
+// of the input, whose head (`stdin`) has an example of each, is
+//
+//     # COMMENT, or nothing
+//     junctions LIST, or roads LIST: a file of the network from here on
+//     NAME: ENTRY NUMBERS, LIST: a row, asked of the network
+//
+// A LIST is numbers, a space before each, in groups with a comma between; `22x` before a group has it
+// stand 22 times, and `5b` at the end cuts the list to 5 bytes. A row is printed as its name, the
+// numbers given back, and the lent list if there is one; any other line as a bad row.
 mod entries;
+mod files;
 mod notation;
 mod shown;
 
 use bytes::scan::find;
-use entries::ask;
+use files::Network;
 use libc::STDIN_FILENO;
-use notation::I32;
-use notation::NOWHERE;
-use notation::U16;
-use notation::after;
-use notation::read_list;
 
-// Room for the rows, and for one junction and one road more than a network may have.
+// Room for the rows.
 const TEXT_ROOM: usize = 65536;
-
-const NODES_ROOM: usize = (network::MOST_JUNCTIONS + 1) * network::JUNCTION_BYTES;
-
-const ROADS_ROOM: usize = (network::MOST_ROADS + 1) * network::ROAD_BYTES;
-
-// How many bytes the two files have.
-struct Sizes {
-    nodes: usize,
-    roads: usize,
-}
 
 fn main() {
     let mut text = [0u8; TEXT_ROOM];
-    let mut nodes = [0u8; NODES_ROOM];
-    let mut roads = [0u8; ROADS_ROOM];
     let size = io::read_full(STDIN_FILENO, &mut text);
-    run(&text[..size], &mut nodes, &mut roads);
+    run(&text[..size]);
     if size == TEXT_ROOM {
-        shown::no_room();
+        shown::bad_row(0);
     }
 }
 
-fn run(text: &[u8], nodes: &mut [u8], roads: &mut [u8]) {
-    let mut sizes = Sizes { nodes: 0, roads: 0 };
+// Line by line, from no network.
+fn run(text: &[u8]) {
+    let mut network = Network {
+        junctions: text.len(),
+        roads: text.len(),
+    };
     let mut at = 0;
     let mut number = 1;
     while at < text.len() {
         let end = find(text, at, text.len(), b'\n');
-        sizes = run_line(&text[at..end], number, sizes, nodes, roads);
+        network = run_line(text, network, &text[at..end], at, number);
         at = end + 1;
         number += 1;
     }
 }
 
-// A comment, a row or a line of a file; the sizes of the files after it.
-fn run_line(line: &[u8], number: u64, sizes: Sizes, nodes: &mut [u8], roads: &mut [u8]) -> Sizes {
+// A comment, a line of a file or a row; the network after it.
+fn run_line(text: &[u8], network: Network, line: &[u8], at: usize, number: u64) -> Network {
     if is_comment(line) {
-        return sizes;
+        return network;
     }
     let colon = find(line, 0, line.len(), b':');
-    if colon < line.len() {
-        let name = &line[0..colon];
-        if !ask(
-            name,
-            &line[colon..],
-            front(nodes, sizes.nodes),
-            front(roads, sizes.roads),
-        ) {
-            shown::bad_row(number);
-        }
-        return sizes;
+    if colon == line.len() {
+        return files::set_file(network, line, at, number);
     }
-    set_file(line, number, sizes, nodes, roads)
+    if !entries::ask(text, network, line, colon) {
+        shown::bad_row(number);
+    }
+    network
 }
 
+// Whether a line is skipped.
 fn is_comment(line: &[u8]) -> bool {
     if line.len() == 0 {
         return true;
     }
     line[0] == b'#'
-}
-
-// A line of a file: its keyword and its records.
-fn set_file(line: &[u8], number: u64, sizes: Sizes, nodes: &mut [u8], roads: &mut [u8]) -> Sizes {
-    let mut set = sizes;
-    let junctions = after(line, 0, b"junctions");
-    if junctions != NOWHERE {
-        set.nodes = told(read_list(line, junctions, &[I32], nodes), number);
-        return set;
-    }
-    set.roads = told(
-        read_list(line, after(line, 0, b"roads"), &[U16, U16, I32], roads),
-        number,
-    );
-    set
-}
-
-// The size of a file; one that was not read is told, and is empty.
-fn told(size: usize, number: u64) -> usize {
-    if size == NOWHERE {
-        shown::bad_row(number);
-        return 0;
-    }
-    size
-}
-
-// The first n bytes, or all there are.
-fn front(s: &[u8], n: usize) -> &[u8] {
-    if n <= s.len() { &s[0..n] } else { s }
 }

@@ -4,204 +4,101 @@
 // No place of a line, and no size.
 pub const NOWHERE: usize = 18446744073709551615;
 
-// What a number is stored as.
-pub const U16: u8 = 0;
+// The place of a list that is read to the line's end.
+const DONE: usize = NOWHERE - 1;
 
-pub const I32: u8 = 1;
+// The records of a list: a potential of 4 bytes; tail, head and consumption of 2, 2 and 4 bytes; an
+// entry of a route of 2 bytes.
+pub const JUNCTION: u8 = 0;
 
-pub const U64: u8 = 2;
+pub const ROAD: u8 = 1;
 
-pub const I64: u8 = 3;
+pub const ENTRY: u8 = 2;
 
-// The most items of a list, each counted as often as it is read.
-const MOST_ITEMS: usize = 65536;
+// What a number fits, by its bytes: 2, 4 with a sign, 8 with a sign or without.
+const U16: u8 = 2;
+
+const I32: u8 = 4;
+
+pub const ANY: u8 = 8;
+
+// Room for one road more than a network may have.
+pub const LIST_ROOM: usize = (network::MOST_ROADS + 1) * network::ROAD_BYTES;
+
+// The most steps of a list: a number, a byte of it, the end of a group.
+const MOST_STEPS: usize = 2 * LIST_ROOM;
 
 // A number's bits in two's complement, and the place after it.
-struct Number {
-    bits: u64,
-    next: usize,
+pub struct Number {
+    pub bits: u64,
+    pub next: usize,
 }
 
-// A number with one digit more, or that no digit stands there or there is no room for it.
+// A list's bytes, the least of a number first, and how many they are; NOWHERE where there is no list.
+pub struct File {
+    pub size: usize,
+    pub bytes: [u8; LIST_ROOM],
+}
+
+// A number with one digit more, or that the byte is no digit or there is no room for it.
 enum Grown {
     To(u64),
     Ended,
 }
 
 // A list as far as it is read: the place, where its group began, how often the group is still to be
-// read, the bytes stored, and the next number's place in its record.
+// read, how many bytes it has, and the number whose bytes come next with how many are left of it.
 struct Listing {
     at: usize,
     group: usize,
     times: u64,
     size: usize,
-    field: usize,
+    rest: u64,
+    left: u8,
 }
 
-// As many numbers as there are kinds, a space before each; answers the place after them.
-pub fn read_numbers(line: &[u8], at: usize, kinds: &[u8], numbers: &mut [u64]) -> usize {
-    let mut next = at;
-    let mut i = 0;
-    while i < kinds.len() {
-        let number = read_number(line, after(line, next, b" "), kinds[i]);
-        set(numbers, i, number.bits);
-        next = number.next;
-        i += 1;
-    }
-    next
-}
-
-// A list of records up to the line's end, each number stored least byte first; answers how many
-// bytes.
-pub fn read_list(line: &[u8], at: usize, record: &[u8], file: &mut [u8]) -> usize {
+// A list of records that goes to the line's end.
+pub fn read_list(line: &[u8], at: usize, record: u8) -> File {
+    let mut bytes = [0u8; LIST_ROOM];
     let mut list = begun(at);
-    for _ in 0..MOST_ITEMS {
-        if is_read(line, list) {
-            return list.size;
+    for _ in 0..MOST_STEPS {
+        if list.at == DONE {
+            return File {
+                size: list.size,
+                bytes,
+            };
         }
-        list = read_item(line, list, record, file);
+        let size = list.size;
+        if size < LIST_ROOM {
+            bytes[size] = lowest(list.rest);
+        }
+        list = step(line, list, record);
     }
-    NOWHERE
+    File {
+        size: NOWHERE,
+        bytes,
+    }
 }
 
-// A word that stands here.
-pub fn after(line: &[u8], at: usize, word: &[u8]) -> usize {
-    if line.len() < word.len() {
+// The place after a byte that stands here.
+pub fn after(line: &[u8], at: usize, b: u8) -> usize {
+    if line.len() <= at {
         return NOWHERE;
     }
-    if line.len() - word.len() < at {
-        return NOWHERE;
-    }
-    let end = at + word.len();
-    if check::same(&line[at..end], word) {
-        end
-    } else {
-        NOWHERE
-    }
+    if line[at] == b { at + 1 } else { NOWHERE }
 }
 
-fn begun(at: usize) -> Listing {
-    Listing {
-        at,
-        group: at,
-        times: 1,
-        size: 0,
-        field: 0,
+// Where a group begins after a comma; nothing is left to read at the line's end.
+pub fn next_group(line: &[u8], at: usize) -> usize {
+    if at == line.len() {
+        return DONE;
     }
-}
-
-// Whether the line is read to its end, as often as it says.
-fn is_read(line: &[u8], list: Listing) -> bool {
-    if list.at != line.len() {
-        return false;
-    }
-    if list.times != 1 {
-        return false;
-    }
-    list.field == 0
-}
-
-// A cut, a count, a number of a record or the end of a group.
-fn read_item(line: &[u8], list: Listing, record: &[u8], file: &mut [u8]) -> Listing {
-    let cut = after(line, list.at, b" cut ");
-    if cut != NOWHERE {
-        return end_file(list, read_digits(line, cut));
-    }
-    let at = after(line, list.at, b" ");
-    if at == NOWHERE {
-        return end_group(line, list);
-    }
-    let count = read_digits(line, at);
-    let times = after(line, count.next, b"x");
-    if times != NOWHERE {
-        return begin_group(list, times, count.bits);
-    }
-    read_field(line, at, list, record, file)
-}
-
-// `cut 5`: the first 5 bytes of those that are stored.
-fn end_file(list: Listing, cut: Number) -> Listing {
-    let size = cut.bits as usize;
-    if list.size < size {
-        return begun(NOWHERE);
-    }
-    let mut next = list;
-    next.at = cut.next;
-    next.size = size;
-    next
-}
-
-// `22x`, which begins a group.
-fn begin_group(list: Listing, at: usize, times: u64) -> Listing {
-    if list.at != list.group {
-        return begun(NOWHERE);
-    }
-    if list.times != 1 {
-        return begun(NOWHERE);
-    }
-    let mut next = list;
-    next.at = at;
-    next.group = at;
-    next.times = times;
-    next
-}
-
-// The group is read again, or a comma stands here and the next one begins.
-fn end_group(line: &[u8], list: Listing) -> Listing {
-    if list.field != 0 {
-        return begun(NOWHERE);
-    }
-    let mut next = list;
-    if 1 < list.times {
-        next.at = list.group;
-        next.times = list.times - 1;
-        return next;
-    }
-    next.at = after(line, list.at, b",");
-    next.group = next.at;
-    next
-}
-
-// A number of a record, after what is stored.
-fn read_field(line: &[u8], at: usize, list: Listing, record: &[u8], file: &mut [u8]) -> Listing {
-    let kind = byte(record, list.field);
-    let number = read_number(line, at, kind);
-    let mut next = list;
-    next.at = number.next;
-    next.field = following(list.field, record.len());
-    let low = store(next, number.bits, file);
-    if kind == U16 {
-        return low;
-    }
-    store(low, number.bits / 65536, file)
-}
-
-fn following(field: usize, fields: usize) -> usize {
-    if fields <= field {
-        return 0;
-    }
-    if field + 1 == fields { 0 } else { field + 1 }
-}
-
-// The lowest 16 bits, after what is stored.
-fn store(list: Listing, bits: u64, file: &mut [u8]) -> Listing {
-    let size = list.size;
-    if file.len() < 2 {
-        return begun(NOWHERE);
-    }
-    if file.len() - 2 < size {
-        return begun(NOWHERE);
-    }
-    file[size] = (bits % 256) as u8;
-    file[size + 1] = (bits / 256 % 256) as u8;
-    let mut next = list;
-    next.size = size + 2;
-    next
+    after(line, at, b',')
 }
 
 // A number that its kind can hold.
-fn read_number(line: &[u8], at: usize, kind: u8) -> Number {
-    let minus = after(line, at, b"-");
+pub fn read_number(line: &[u8], at: usize, kind: u8) -> Number {
+    let minus = after(line, at, b'-');
     if minus == NOWHERE {
         return up_to(read_digits(line, at), most(kind));
     }
@@ -212,6 +109,146 @@ fn read_number(line: &[u8], at: usize, kind: u8) -> Number {
     }
 }
 
+// A list that begins at a place.
+fn begun(at: usize) -> Listing {
+    Listing {
+        at,
+        group: at,
+        times: 1,
+        size: 0,
+        rest: 0,
+        left: 0,
+    }
+}
+
+// One byte of a number, or what stands here.
+fn step(line: &[u8], list: Listing, record: u8) -> Listing {
+    if list.left == 0 {
+        return read_item(line, list, record);
+    }
+    if LIST_ROOM <= list.size {
+        return begun(NOWHERE);
+    }
+    Listing {
+        at: list.at,
+        group: list.group,
+        times: list.times,
+        size: list.size + 1,
+        rest: list.rest / 256,
+        left: list.left - 1,
+    }
+}
+
+// A count, a cut, a number or the end of a group.
+fn read_item(line: &[u8], list: Listing, record: u8) -> Listing {
+    let at = after(line, list.at, b' ');
+    if at == NOWHERE {
+        return end_group(line, list, record);
+    }
+    let count = read_digits(line, at);
+    let times = after(line, count.next, b'x');
+    if times != NOWHERE {
+        return begin_group(list, times, count.bits);
+    }
+    if after(line, count.next, b'b') == line.len() {
+        return cut(list, count.bits as usize);
+    }
+    let kind = kind_of(record, list.size);
+    begin_number(list, read_number(line, at, kind), kind)
+}
+
+// The bytes of a number come next.
+fn begin_number(list: Listing, number: Number, kind: u8) -> Listing {
+    Listing {
+        at: number.next,
+        group: list.group,
+        times: list.times,
+        size: list.size,
+        rest: number.bits,
+        left: kind,
+    }
+}
+
+// `22x`, which begins a group.
+fn begin_group(list: Listing, at: usize, times: u64) -> Listing {
+    if list.at != list.group {
+        return begun(NOWHERE);
+    }
+    if list.times != 1 {
+        return begun(NOWHERE);
+    }
+    if times == 0 {
+        return begun(NOWHERE);
+    }
+    Listing {
+        at,
+        group: at,
+        times,
+        size: list.size,
+        rest: 0,
+        left: 0,
+    }
+}
+
+// `5b` at the line's end: the first 5 bytes.
+fn cut(list: Listing, size: usize) -> Listing {
+    if list.size < size {
+        return begun(NOWHERE);
+    }
+    Listing {
+        at: DONE,
+        group: DONE,
+        times: 1,
+        size,
+        rest: 0,
+        left: 0,
+    }
+}
+
+// The group is read again, or the line ends, or a comma stands here and the next one begins.
+fn end_group(line: &[u8], list: Listing, record: u8) -> Listing {
+    if !is_whole(record, list.size) {
+        return begun(NOWHERE);
+    }
+    if 1 < list.times {
+        return Listing {
+            at: list.group,
+            group: list.group,
+            times: list.times - 1,
+            size: list.size,
+            rest: 0,
+            left: 0,
+        };
+    }
+    let at = next_group(line, list.at);
+    Listing {
+        at,
+        group: at,
+        times: 1,
+        size: list.size,
+        rest: 0,
+        left: 0,
+    }
+}
+
+// Whether so many bytes are whole records.
+fn is_whole(record: u8, size: usize) -> bool {
+    match record {
+        ROAD => size % 8 == 0,
+        _ => true,
+    }
+}
+
+// The kind of the number that begins after so many bytes.
+fn kind_of(record: u8, size: usize) -> u8 {
+    match record {
+        JUNCTION => I32,
+        ROAD => { if size % 8 < 4 { U16 } else { I32 } }
+        _ => U16,
+    }
+}
+
+// A number that is not above the most.
 fn up_to(number: Number, most: u64) -> Number {
     if most < number.bits {
         Number {
@@ -250,6 +287,7 @@ fn from_to(at: usize, next: usize, bits: u64) -> Number {
     }
 }
 
+// A number with the digit of a byte after it.
 fn grow(bits: u64, b: u8) -> Grown {
     if b < b'0' {
         return Grown::Ended;
@@ -267,29 +305,22 @@ fn grow(bits: u64, b: u8) -> Grown {
 // The largest number of a kind.
 fn most(kind: u8) -> u64 {
     match kind {
-        0 => 65535,
-        1 => 2147483647,
-        2 => 18446744073709551615,
-        _ => 9223372036854775807,
+        U16 => 65535,
+        I32 => 2147483647,
+        _ => 18446744073709551615,
     }
 }
 
 // The largest size of one below 0.
 fn most_below(kind: u8) -> u64 {
     match kind {
-        1 => 2147483648,
-        3 => 9223372036854775808,
-        _ => 0,
+        U16 => 0,
+        I32 => 2147483648,
+        _ => 9223372036854775808,
     }
 }
 
-// The byte at a place, and 0 past the end.
-fn byte(line: &[u8], at: usize) -> u8 {
-    if at < line.len() { line[at] } else { 0 }
-}
-
-fn set(numbers: &mut [u64], i: usize, bits: u64) {
-    if i < numbers.len() {
-        numbers[i] = bits;
-    }
+// The lowest byte.
+fn lowest(bits: u64) -> u8 {
+    (bits % 256) as u8
 }

@@ -1,18 +1,25 @@
 // How a row is printed.
+use bytes::scan::find;
 use libc::STDOUT_FILENO;
 
 // The most numbers that an entry gives back.
 pub const MOST_GIVEN: usize = 7;
 
-// A row's name and the first `count` numbers.
-pub fn numbers(name: &[u8], given: [u64; MOST_GIVEN], count: usize) {
-    text(name);
-    text(b":");
+// The name at the front of a row, up to its colon.
+pub fn name(row: &[u8]) {
+    let colon = find(row, 0, row.len(), b':');
+    text(&row[0..colon]);
+    byte(b':');
+}
+
+// The first `count` numbers.
+pub fn numbers(given: [u64; MOST_GIVEN], count: usize) {
     let mut i = 0;
     while i < MOST_GIVEN {
-        if i < count {
-            number(given[i]);
+        if count <= i {
+            return;
         }
+        number(given[i]);
         i += 1;
     }
 }
@@ -25,7 +32,6 @@ pub fn roads(list: &[u16]) {
         road(list[i]);
         i += 1;
     }
-    end();
 }
 
 // The lent list of charges.
@@ -36,22 +42,17 @@ pub fn charges(list: &[i32]) {
         charge(list[i]);
         i += 1;
     }
-    end();
 }
 
 pub fn end() {
-    text(b"\n");
+    byte(b'\n');
 }
 
+// A line that is not in the notation; 0 stands for those that there is no room for.
 pub fn bad_row(line: u64) {
     text(b"bad row");
     number(line);
     end();
-}
-
-// The input is larger than the room for it.
-pub fn no_room() {
-    text(b"no room for all rows\n");
 }
 
 // The bits of a signed number.
@@ -73,13 +74,17 @@ fn charge(x: i32) {
 
 // A space and a number by its bits.
 fn number(bits: u64) {
+    byte(b' ');
     if bits < 9223372036854775808 {
-        text(b" ");
         io::print_decimal(STDOUT_FILENO, bits);
     } else {
-        text(b" -");
+        byte(b'-');
         io::print_decimal(STDOUT_FILENO, 18446744073709551615 - bits + 1);
     }
+}
+
+fn byte(b: u8) {
+    text(&[b]);
 }
 
 fn text(t: &[u8]) {

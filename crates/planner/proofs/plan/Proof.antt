@@ -12,7 +12,8 @@ use Rattle.trips.specs.declared.Found.{Found}
 use Rattle.promises.specs.Order.{planVan}
 use Rattle.planner.specs.Planning.{FoundAsks, FoundKeeps}
 use Rattle.promises.proofs.Passed.{start-whole, plan-passed}
-use Rattle.planner.proofs.Searching.{tripFor, FindsFor, find-asks, plans-none, BestWalk, best-walk, count-le, found-asks, plans-route}
+use Rattle.planner.proofs.Listed.{count-le, found-asks, plans-route}
+use Rattle.planner.proofs.Searching.{tripFor, FindsFor, find-asks, plans-none, BestWalk, best-walk}
 use Rattle.planner.proofs.plan.Statement.{statement}
 use Rattle.planner.proofs.plan.Tie as tie
 

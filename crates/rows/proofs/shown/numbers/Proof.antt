@@ -5,10 +5,10 @@ use Rattle.rows.proofs.shown.numbers.Statement.{statement}
 use Rattle.rows.proofs.shown.numbers.Tie as tie
 
 abbrev Inv-loop : tie.InvT-loop
-Inv-loop name count given i₀ i = i ≤ 7
+Inv-loop count given i₀ i = i ≤ 7
 
 abbrev μ-loop : tie.MeasureT-loop
-μ-loop name count given i₀ i = 7 - i
+μ-loop count given i₀ i = 7 - i
 
 pub numbers-spec : {M : Type 1} → statement M
 numbers-spec =
@@ -16,9 +16,7 @@ numbers-spec =
     (tie.spec
     Inv-loop
     μ-loop
-    (λ c κs. search needs)
     (λ c. search needs)
-    (λ c κs. search needs)
     (λ c. search needs)
     (λ c. search needs)
     (λ c. search needs)
