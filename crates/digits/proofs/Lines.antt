@@ -5,7 +5,7 @@ use mathlib.Core.List.{List, [], _∷_, _++_, append-assoc}
 use Prim.Native.Nat.{ℕ, zero, suc, _^_, _<_}
 use native.Mathlib.Omega.{arith}
 use lib.Dec.{lit<}
-use lib.ListN.{length, getD, length-append}
+use lib.ListN.{getD, length-append}
 use Rattle.digits.specs.Claims.{OneReading, RestIsFree, LineIsShort}
 use Rattle.digits.specs.Digits.{spelled}
 use Rattle.digits.specs.Line.{space, newline, Number, Line, last, then}

@@ -15,7 +15,7 @@ use Rattle.battery.specs.declared.Road.{Road}
 use Rattle.network.specs.Check.{filesFault, roadFault, potentialFault, recordFault, recordsFault}
 use Rattle.network.specs.Files.{junctions, roadCount, roadOf, potential, junctionFile, roadFile, isJunction, inRange, passes}
 use Rattle.routes.specs.Places.{mostEntries}
-use Rattle.promises.specs.Order.{isBattery, isStart, energyFault, junctionFault, roomFault, lengthFault, planFault, driveAsked}
+use Rattle.promises.specs.Order.{isBattery, isStart, energyFault, junctionFault, planFault, driveAsked}
 use Rattle.promises.specs.declared.DriveQuestion.{DriveQuestion}
 use Rattle.promises.specs.declared.PlanQuestion.{PlanQuestion}
 

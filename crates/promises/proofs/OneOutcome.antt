@@ -4,7 +4,7 @@ use Rattle.battery.specs.declared.Profile.{Profile}
 use Rattle.battery.specs.declared.Van.{Van}
 use Rattle.refusals.specs.declared.Refusal.{Refusal}
 use Rattle.refusals.proofs.Faults.{same-refusal, not-both}
-use Rattle.refusals.specs.declared.Checked.the-variants.{Passed, Refused}
+use Rattle.refusals.specs.declared.Checked.the-variants.{Refused}
 use Rattle.routes.specs.declared.Driven.the-variants as driven
 use Rattle.routes.specs.declared.Profiled.the-variants as profiled
 use Rattle.promises.specs.Claims.{OneCheck, OneDrive, OneProfile}

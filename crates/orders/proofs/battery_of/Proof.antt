@@ -2,7 +2,6 @@
 use mathlib.Core.Path.{ap, _∙_}
 use mir.Facts.{toZ-ofZ}
 use Rattle.numbers.specs.Signed.{draw}
-use Rattle.battery.specs.declared.Battery.{Battery}
 use Rattle.promises.proofs.Bits.{whole-bits}
 use Rattle.orders.proofs.battery_of.Statement.{statement}
 use Rattle.orders.proofs.battery_of.Tie as tie
