@@ -1,4 +1,6 @@
 // The battery rule: a van and a road give the next van. Charges and consumptions are in mWh.
+#![tactic(auto)]
+
 ghost use Rattle.std.specs.Prelude.{◌≡◌, ◌-◌, ◌≤◌, max};
 ghost use Rattle.numbers.specs.Signed.{draw};
 ghost use Rattle.battery.specs.Drive.{fresh, drive};
@@ -15,7 +17,7 @@ pub const MOST_CONSUMPTION: i32 = 200000000;
 pub const LEAST_CONSUMPTION: i32 = -200000000;
 
 // A road as its record has it.
-#[derive(Drop)]
+#[derive(Clone, Copy)]
 pub struct Road {
     pub tail: u16,
     pub head: u16,
@@ -23,13 +25,13 @@ pub struct Road {
 }
 
 // A battery, in mWh.
-#[derive(Drop)]
+#[derive(Clone, Copy)]
 pub struct Battery {
     pub size: u32,
 }
 
 // A van on its way: its battery, its charge, and the totals of the roads driven so far.
-#[derive(Drop)]
+#[derive(Clone, Copy)]
 pub struct Van {
     pub battery: Battery,
     pub charge: u32,
@@ -39,7 +41,7 @@ pub struct Van {
 }
 
 // What comes of driving a road: the next van, or a charge that is too low.
-#[derive(Drop)]
+#[derive(Clone, Copy)]
 pub enum Drove {
     On(Van),
     TooLow,
@@ -47,7 +49,7 @@ pub enum Drove {
 
 // Of one route, for all start charges: below need it cannot be driven; from need on the arrival is
 // the smaller of top and start - sum.
-#[derive(Drop)]
+#[derive(Clone, Copy)]
 pub struct Profile {
     pub need: u32,
     pub sum: i64,
@@ -55,7 +57,7 @@ pub struct Profile {
 }
 
 // A route that no charge can drive has no profile.
-#[derive(Drop)]
+#[derive(Clone, Copy)]
 pub enum Passage {
     Passable(Profile),
     Impassable,

@@ -1,6 +1,7 @@
 // The charge to set off with: for one depot and one battery size, the least charge of every junction
 // from which some walk to the depot is feasible. Like the planner's entries it takes any bytes and
 // any numbers, asks nothing of its caller, and ends with its answer or with one numbered refusal.
+#![tactic(auto)]
 ghost use Rattle.std.specs.Prelude.{◌≡◌};
 ghost use Rattle.promises.specs.Given.{check_numbers};
 ghost use Rattle.promises.specs.Promises.{Numbered, SetsOff};

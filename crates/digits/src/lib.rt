@@ -1,5 +1,6 @@
 // Numbers in decimal digits: a line of them is read, and they are written, one to a line, into a
 // lent buffer. Opening files, reading and writing them is the programs' own.
+#![tactic(auto)]
 ghost use Rattle.std.specs.Prelude.{◌≡◌, ◌+◌, ◌≤◌};
 ghost use lib.ListN;
 ghost use lib.ListN.{length};
@@ -11,14 +12,14 @@ ghost use Rattle.digits.specs.Puts.{Puts, PutsFew};
 pub const MOST_DIGITS: usize = 10;
 
 // A number of the line and the place after the byte that ends it, or that none stands there.
-#[derive(Drop)]
+#[derive(Clone, Copy)]
 enum Taken {
     Number(u64, usize),
     Nothing,
 }
 
 // The digits that stand at a place: their number and the place after them.
-#[derive(Drop)]
+#[derive(Clone, Copy)]
 struct Digits {
     value: u64,
     next: usize,

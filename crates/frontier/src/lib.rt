@@ -1,6 +1,8 @@
 // The queue of a search: places by their keys, the greatest first. One list holds a tree: three
 // levels of the greatest of each group of eight below, then the keys. The caller carries the
 // greatest of all. A raise costs four stores, a removal a look at four groups.
+#![tactic(auto)]
+
 ghost use Rattle.std.specs.Prelude.{◌≡◌, ◌+◌, ◌*◌, ◌/◌, ◌^◌, ◌≤◌, ◌<◌, max, length};
 ghost use Rattle.lists.specs.Lists.{entry};
 ghost use Rattle.frontier.specs.Frontier.{key_at, Small, Raises, Removes, Now};

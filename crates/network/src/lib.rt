@@ -1,5 +1,7 @@
 // The two files: the junctions' potentials and the roads, read straight from the lent bytes, and
 // the check of a network.
+#![tactic(auto)]
+
 ghost use Rattle.std.specs.Prelude.{◌≡◌, ◌<◌, ◌-ℤ◌, ◌+ℤ◌};
 ghost use Rattle.network.specs.Files.{junctions, road_count, road_of, potential, junction_file, road_file, in_range, passes};
 ghost use Rattle.network.specs.Check.{files_fault, road_fault, potential_fault, record_fault, records_fault, check_fault};

@@ -1,5 +1,6 @@
 // The tests of a question before any road is followed: those that several entries share, and each
 // entry's own order up to the records.
+#![tactic(auto)]
 ghost use Rattle.std.specs.Prelude.{◌≡◌, ◌-◌};
 ghost use Rattle.numbers.specs.Signed.{draw};
 ghost use Rattle.refusals.specs.Order.{first};

@@ -1,5 +1,6 @@
 // The cab program: one line on standard input, nodes.bin and roads.bin from the current folder, the
 // answer on standard output. What is written is decided by `respond`.
+#![tactic(auto)]
 ghost use Rattle.std.specs.Prelude.{◌≡◌, take};
 ghost use Rattle.io.specs.Counts.{IsPrefixLen};
 ghost use Rattle.programs.specs.Program.{Responds};

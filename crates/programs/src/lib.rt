@@ -1,5 +1,6 @@
 // What the programs share: they read a line of numbers from standard input and the two files of the
 // current folder, and write `bad query`, `no file` or what the library answers.
+#![tactic(auto)]
 ghost use Rattle.std.specs.Prelude.{◌≤◌, length};
 ghost use Rattle.io.specs.Counts.{IsPrefixLen};
 ghost use Rattle.programs.specs.Shared.{Reads, Begins};
@@ -16,7 +17,7 @@ pub const NODES_ROOM: usize = network::MOST_JUNCTIONS * network::JUNCTION_BYTES 
 pub const ROADS_ROOM: usize = network::MOST_ROADS * network::ROAD_BYTES + 1;
 
 // How many bytes of the line and of each file were read, and whether both files could be.
-#[derive(Drop)]
+#[derive(Clone, Copy)]
 pub struct Inputs {
     pub line: usize,
     pub files: bool,
@@ -25,7 +26,7 @@ pub struct Inputs {
 }
 
 // Whether a file could be read, and how many of its bytes were.
-#[derive(Drop)]
+#[derive(Clone, Copy)]
 struct Got {
     ok: bool,
     count: usize,
@@ -33,7 +34,7 @@ struct Got {
 
 // How a program begins: so many bytes are written and it ends, or the line's numbers are there for
 // the library.
-#[derive(Drop)]
+#[derive(Clone, Copy)]
 pub enum Begun {
     Written(usize),
     Numbers,

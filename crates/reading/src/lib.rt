@@ -1,5 +1,6 @@
 // How roads are read, forward or backward: which end is entered, what label a road brings, and the
 // number of a junction. A label is an amount plus one, and 0 is none.
+#![tactic(auto)]
 ghost use Rattle.std.specs.Prelude.{◌≡◌, min};
 ghost use Rattle.reading.specs.Asks.{StepAsks};
 ghost use Rattle.reading.specs.Reading.{entered, left, step_forward, step_backward, step_of, psi_forward, psi_backward, psi_of};
@@ -9,14 +10,14 @@ use battery::{Battery, Road};
 // In which sense roads are read: forward, from tail to head, a label being the charge that a van
 // has, plus one; or backward, from head to tail, a label being the slack, which is the battery size
 // less the charge that a van needs, plus one.
-#[derive(Drop)]
+#[derive(Clone, Copy)]
 pub enum Sense {
     Forward,
     Backward,
 }
 
 // How roads are read.
-#[derive(Drop)]
+#[derive(Clone, Copy)]
 pub struct Reading {
     pub sense: Sense,
     pub battery: Battery,

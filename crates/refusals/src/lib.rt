@@ -1,12 +1,14 @@
 // The numbered refusals: why a question is refused, its number and its place, and which of two tests
 // is told.
+#![tactic(auto)]
+
 ghost use Rattle.std.specs.Prelude.{◌≡◌};
 ghost use Rattle.refusals.specs.Order;
 ghost use Rattle.refusals.specs.Refusals.{number_of, place_of};
 
 // Why a question is refused: 1 to 15 in document 01's order, then request [2]'s 16 and 17. A number
 // is the record, the least start charge or the place in the route.
-#[derive(Drop)]
+#[derive(Clone, Copy)]
 pub enum Refusal {
     JunctionFile,
     RoadFile,
@@ -28,7 +30,7 @@ pub enum Refusal {
 }
 
 // What a check comes to.
-#[derive(Drop)]
+#[derive(Clone, Copy)]
 pub enum Checked {
     Passed,
     Refused(Refusal),

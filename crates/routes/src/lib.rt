@@ -1,4 +1,5 @@
 // A given route, place by place: driven, and profiled for all start charges.
+#![tactic(auto)]
 ghost use Rattle.std.specs.Prelude.{◌≡◌};
 ghost use Rattle.routes.specs.Places.{entry_fault, begin_fault};
 ghost use Rattle.routes.specs.Steps.{enters, DriveAsks, DriveKeeps, PlaceAsks, drive_place, ProfileAsks, ProfileKeeps, ExtendAsks, profile_place};
@@ -10,28 +11,28 @@ use refusals::{Checked, Refusal};
 pub const MOST_ENTRIES: usize = 8192;
 
 // What a drive comes to: the van that arrived, or the first fault.
-#[derive(Drop)]
+#[derive(Clone, Copy)]
 pub enum Driven {
     Arrived(Van),
     Refused(Refusal),
 }
 
 // What a profile comes to: the three numbers, or the first fault.
-#[derive(Drop)]
+#[derive(Clone, Copy)]
 pub enum Profiled {
     Known(Profile),
     Refused(Refusal),
 }
 
 // The junction and the van beyond a place of the route, or the fault there.
-#[derive(Drop)]
+#[derive(Clone, Copy)]
 enum DriveStep {
     On(usize, Van),
     Refused(Refusal),
 }
 
 // The junction beyond a place of the route and the profile up to it, or the fault there.
-#[derive(Drop)]
+#[derive(Clone, Copy)]
 enum ProfileStep {
     On(usize, Profile),
     Refused(Refusal),

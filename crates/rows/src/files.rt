@@ -4,7 +4,7 @@ use crate::shown;
 use bytes::scan::find;
 
 // Where the lists of the two files begin in the text.
-#[derive(Drop)]
+#[derive(Clone, Copy)]
 pub struct Network {
     pub junctions: usize,
     pub roads: usize,

@@ -9,6 +9,7 @@
 // A LIST is numbers, a space before each, in groups with a comma between; `22x` before a group has it
 // stand 22 times, and `5b` at the end cuts the list to 5 bytes. A row is printed as its name, the
 // numbers given back, and the lent list if there is one; any other line as a bad row.
+#![tactic(auto)]
 mod entries;
 mod files;
 mod notation;

@@ -29,21 +29,21 @@ pub const LIST_ROOM: usize = (network::MOST_ROADS + 1) * network::ROAD_BYTES;
 const MOST_STEPS: usize = 2 * LIST_ROOM;
 
 // A number's bits in two's complement, and the place after it.
-#[derive(Drop)]
+#[derive(Clone, Copy)]
 pub struct Number {
     pub bits: u64,
     pub next: usize,
 }
 
 // A list's bytes, the least of a number first, and how many they are; NOWHERE where there is no list.
-#[derive(Drop)]
+#[derive(Clone, Copy)]
 pub struct File {
     pub size: usize,
     pub bytes: [u8; LIST_ROOM],
 }
 
 // A number with one digit more, or that the byte is no digit or there is no room for it.
-#[derive(Drop)]
+#[derive(Clone, Copy)]
 enum Grown {
     To(u64),
     Ended,
@@ -51,7 +51,7 @@ enum Grown {
 
 // A list as far as it is read: the place, where its group began, how often the group is still to be
 // read, how many bytes it has, and the number whose bytes come next with how many are left of it.
-#[derive(Drop)]
+#[derive(Clone, Copy)]
 struct Listing {
     at: usize,
     group: usize,

@@ -1,4 +1,5 @@
 // The search for the best label of each junction. A label is an amount plus one, and 0 is none.
+#![tactic(auto)]
 ghost use Rattle.std.specs.Prelude.{◌≡◌, ◌+◌, ◌^◌, ◌<◌};
 ghost use Rattle.network.specs.Files.{junctions, road_count};
 ghost use Rattle.reading.specs.Reading.{psi, net};
@@ -10,7 +11,7 @@ use reading::Reading;
 
 // From where a search sets out and with what label, and the junction where it may stop. A target
 // that is no junction never stops it, and then every label is the best.
-#[derive(Drop)]
+#[derive(Clone, Copy)]
 pub struct Trip {
     pub source: usize,
     pub label: u32,
@@ -18,7 +19,7 @@ pub struct Trip {
 }
 
 // What a road brings: its number, the label and the key.
-#[derive(Drop)]
+#[derive(Clone, Copy)]
 struct Offer {
     road: u16,
     label: u32,

@@ -1,6 +1,7 @@
 // The program of the night crew: one line on standard input, nodes.bin and roads.bin from the current
 // folder, the charge to set off with from each junction on standard output. What is written is
 // decided by `respond`.
+#![tactic(auto)]
 ghost use Rattle.std.specs.Prelude.{◌≡◌, take};
 ghost use Rattle.io.specs.Counts.{IsPrefixLen};
 ghost use Rattle.network.specs.Files.{most_junctions};

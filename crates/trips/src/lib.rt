@@ -1,4 +1,5 @@
 // One trip: the best route, or why there is none. All searches of a trip share one set of lists.
+#![tactic(auto)]
 ghost use Rattle.reading.specs.Reading.{net};
 ghost use Rattle.trips.specs.Asks.{FindAsks};
 ghost use Rattle.trips.specs.Found.{Finds};
@@ -10,7 +11,7 @@ use refusals::Refusal;
 use search::Trip;
 
 // What comes of a trip: how many roads the route has, or why there is none.
-#[derive(Drop)]
+#[derive(Clone, Copy)]
 pub enum Found {
     Roads(usize),
     Nowhere(Refusal),
