@@ -2,7 +2,7 @@
 // current folder, and write `bad query`, `no file` or what the library answers.
 #![tactic(auto)]
 ghost use Rattle.std.specs.Prelude.{◌≤◌, length};
-ghost use Rattle.io.specs.Counts.{IsPrefixLen};
+ghost use Rattle.digits.specs.Counts.{IsPrefixLen};
 ghost use Rattle.programs.specs.Shared.{Reads, Begins};
 ghost use Rattle.programs.specs.Program.{bad_query};
 
