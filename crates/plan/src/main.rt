@@ -13,7 +13,6 @@ ghost use Rattle.plan.specs.Response.{question, plan_program};
 use programs::{Begun, MOST_NUMBER, NODES_ROOM, ROADS_ROOM};
 use promises::{PlanQuestion, Planned};
 use std::io;
-use std::io::Write;
 use text::MOST_ROUTE;
 
 // The numbers of the line: battery, start, source, target.
@@ -27,7 +26,7 @@ fn main(rt: HostRuntime) -> io::Result<()> {
     let n = read.line;
     let a = read.nodes;
     let count = respond(&line[..n], read.files, &nodes[..a], &mut roads, read.roads);
-    io::writer(&rt).write_all(&roads[..count])
+    rt.write_all(&roads[..count])
 }
 
 // What is written: how many bytes at the start of `roads`. The file of the roads is its first `size`

@@ -15,7 +15,6 @@ use programs::{Begun, MOST_NUMBER, NODES_ROOM, ROADS_ROOM};
 use promises::SetOffQuestion;
 use refusals::Checked;
 use std::io;
-use std::io::Write;
 
 // The numbers of the line: battery, depot.
 const NUMBERS: usize = 2;
@@ -28,7 +27,7 @@ fn main(rt: HostRuntime) -> io::Result<()> {
     let n = read.line;
     let a = read.nodes;
     let count = respond(&line[..n], read.files, &nodes[..a], &mut roads, read.roads);
-    io::writer(&rt).write_all(&roads[..count])
+    rt.write_all(&roads[..count])
 }
 
 // What is written: how many bytes at the start of `roads`. The file of the roads is its first `size`
