@@ -1,4 +1,4 @@
-use Rattle.std.proofs.Common.{◌≡◌, length, sym, ap, ◌∙◌, subst}
+use Rattle.std.proofs.Common.{length, sym, ap, ◌∙◌, subst}
 use Rattle.battery.specs.declared.Battery.{Battery}
 use Rattle.routes.specs.Steps.{ProfileAsks, ProfileKeeps}
 use Rattle.promises.specs.Order.{battery_of}
