@@ -2,11 +2,11 @@
 // what is given back in the order of the answer's fields.
 use crate::files::{Network, line_at};
 use crate::notation::{
-    ANY, ENTRY, JUNCTION, Number, ROAD, after, next_group, read_list, read_number,
+    ANY, ENTRY, JUNCTION, Number, ROAD, after, find, next_group, read_list, read_number,
 };
 use crate::shown;
-use bytes::scan::find;
 use promises::{DriveQuestion, PlanQuestion, ProfileQuestion, SetOffQuestion};
+use std::io;
 
 const CHECK: u8 = 0;
 
@@ -25,34 +25,40 @@ const MOST_LIST: usize = routes::MOST_ENTRIES + 1;
 
 // A row: its name up to the colon, its keyword, its numbers and its list. Answers whether it is in
 // the notation.
-pub fn ask(text: &[u8], network: Network, line: &[u8], colon: usize) -> bool {
+pub fn ask(
+    rt: &impl Print,
+    text: &[u8],
+    network: Network,
+    line: &[u8],
+    colon: usize,
+) -> io::Result<bool> {
     let from = after(line, after(line, colon, b':'), b' ');
     if line.len() <= from {
-        return false;
+        return Ok(false);
     }
-    let end = find(line, from, line.len(), b' ');
+    let end = find(line, from, b' ');
     let entry = entry_of(&line[from..end]);
     if entry == UNKNOWN {
-        return false;
+        return Ok(false);
     }
-    ask_entry(text, network, line, entry, end)
+    ask_entry(rt, text, network, line, entry, end)
 }
 
 // The entry of a keyword.
 fn entry_of(word: &[u8]) -> u8 {
-    if check::same(word, b"check") {
+    if word == b"check".as_slice() {
         return CHECK;
     }
-    if check::same(word, b"drive") {
+    if word == b"drive".as_slice() {
         return DRIVE;
     }
-    if check::same(word, b"profile") {
+    if word == b"profile".as_slice() {
         return PROFILE;
     }
-    if check::same(word, b"best_route") {
+    if word == b"best_route".as_slice() {
         return BEST_ROUTE;
     }
-    if check::same(word, b"set_off") {
+    if word == b"set_off".as_slice() {
         return SET_OFF;
     }
     UNKNOWN
@@ -69,7 +75,14 @@ fn has(entry: u8, number: usize) -> bool {
 }
 
 // The numbers from a place on, then the list.
-fn ask_entry(text: &[u8], network: Network, line: &[u8], entry: u8, at: usize) -> bool {
+fn ask_entry(
+    rt: &impl Print,
+    text: &[u8],
+    network: Network,
+    line: &[u8],
+    entry: u8,
+    at: usize,
+) -> io::Result<bool> {
     let battery = read_asked(line, at, has(entry, 0));
     let start = read_asked(line, battery.next, has(entry, 1));
     let source = read_asked(line, start.next, has(entry, 2));
@@ -81,6 +94,7 @@ fn ask_entry(text: &[u8], network: Network, line: &[u8], entry: u8, at: usize) -
         target: target.bits,
     };
     ask_list(
+        rt,
         text,
         network,
         line,
@@ -92,24 +106,25 @@ fn ask_entry(text: &[u8], network: Network, line: &[u8], entry: u8, at: usize) -
 
 // The list from a place on.
 fn ask_list(
+    rt: &impl Print,
     text: &[u8],
     network: Network,
     line: &[u8],
     entry: u8,
     asked: PlanQuestion,
     at: usize,
-) -> bool {
+) -> io::Result<bool> {
     let file = read_list(line, at, ENTRY);
     let count = file.size / 2;
     if MOST_LIST < count {
-        return false;
+        return Ok(false);
     }
     if !takes(entry, count) {
-        return false;
+        return Ok(false);
     }
     let list = entries_of(&file.bytes);
-    ask_network(text, network, line, entry, asked, &list[0..count]);
-    true
+    ask_network(rt, text, network, line, entry, asked, &list[0..count])?;
+    Ok(true)
 }
 
 // Whether an entry may have a list of this length.
@@ -122,24 +137,26 @@ fn takes(entry: u8, count: usize) -> bool {
 
 // The two files, and the row printed.
 fn ask_network(
+    rt: &impl Print,
     text: &[u8],
     network: Network,
     line: &[u8],
     entry: u8,
     asked: PlanQuestion,
     list: &[u16],
-) {
+) -> io::Result<()> {
     let nodes = read_list(line_at(text, network.junctions), 0, JUNCTION);
     let roads = read_list(line_at(text, network.roads), 0, ROAD);
-    shown::name(line);
+    shown::name(rt, line)?;
     answer(
+        rt,
         entry,
         front(&nodes.bytes, nodes.size),
         front(&roads.bytes, roads.size),
         asked,
         list,
-    );
-    shown::end();
+    )?;
+    shown::end(rt)
 }
 
 // The first n bytes, or all there are.
@@ -152,22 +169,35 @@ fn front(bytes: &[u8], n: usize) -> &[u8] {
 }
 
 // The numbers are those of a best route, as far as the entry has them; a depot is a source.
-fn answer(entry: u8, nodes: &[u8], roads: &[u8], asked: PlanQuestion, list: &[u16]) {
+fn answer(
+    rt: &impl Print,
+    entry: u8,
+    nodes: &[u8],
+    roads: &[u8],
+    asked: PlanQuestion,
+    list: &[u16],
+) -> io::Result<()> {
     match entry {
-        CHECK => check(nodes, roads),
-        DRIVE => drive(nodes, roads, asked, list),
-        PROFILE => profile(nodes, roads, asked, list),
-        BEST_ROUTE => best_route(nodes, roads, asked, list),
-        _ => set_off(nodes, roads, asked, list),
+        CHECK => check(rt, nodes, roads),
+        DRIVE => drive(rt, nodes, roads, asked, list),
+        PROFILE => profile(rt, nodes, roads, asked, list),
+        BEST_ROUTE => best_route(rt, nodes, roads, asked, list),
+        _ => set_off(rt, nodes, roads, asked, list),
     }
 }
 
-fn check(nodes: &[u8], roads: &[u8]) {
+fn check(rt: &impl Print, nodes: &[u8], roads: &[u8]) -> io::Result<()> {
     let given = planner::check_numbers(planner::check(nodes, roads));
-    shown::numbers([given.number, given.place, 0, 0, 0, 0, 0], 2);
+    shown::numbers(rt, [given.number, given.place, 0, 0, 0, 0, 0], 2)
 }
 
-fn drive(nodes: &[u8], roads: &[u8], asked: PlanQuestion, route: &[u16]) {
+fn drive(
+    rt: &impl Print,
+    nodes: &[u8],
+    roads: &[u8],
+    asked: PlanQuestion,
+    route: &[u16],
+) -> io::Result<()> {
     let question = DriveQuestion {
         battery: asked.battery,
         start: asked.start,
@@ -175,6 +205,7 @@ fn drive(nodes: &[u8], roads: &[u8], asked: PlanQuestion, route: &[u16]) {
     };
     let given = planner::drive_numbers(planner::drive(nodes, roads, question, route));
     shown::numbers(
+        rt,
         [
             given.number,
             given.place,
@@ -185,10 +216,16 @@ fn drive(nodes: &[u8], roads: &[u8], asked: PlanQuestion, route: &[u16]) {
             0,
         ],
         6,
-    );
+    )
 }
 
-fn profile(nodes: &[u8], roads: &[u8], asked: PlanQuestion, route: &[u16]) {
+fn profile(
+    rt: &impl Print,
+    nodes: &[u8],
+    roads: &[u8],
+    asked: PlanQuestion,
+    route: &[u16],
+) -> io::Result<()> {
     let question = ProfileQuestion {
         battery: asked.battery,
         source: asked.source,
@@ -196,24 +233,38 @@ fn profile(nodes: &[u8], roads: &[u8], asked: PlanQuestion, route: &[u16]) {
     let given = planner::profile_numbers(planner::profile(nodes, roads, question, route));
     let sum = shown::bits(given.sum);
     shown::numbers(
+        rt,
         [given.number, given.place, given.need, sum, given.top, 0, 0],
         5,
-    );
+    )
 }
 
 // The list is lent.
-fn best_route(nodes: &[u8], roads: &[u8], asked: PlanQuestion, list: &[u16]) {
+fn best_route(
+    rt: &impl Print,
+    nodes: &[u8],
+    roads: &[u8],
+    asked: PlanQuestion,
+    list: &[u16],
+) -> io::Result<()> {
     let mut lent = copied(list);
     let count = list.len();
     if MOST_LIST < count {
-        return;
+        return Ok(());
     }
-    best_route_with(nodes, roads, asked, &mut lent[0..count]);
+    best_route_with(rt, nodes, roads, asked, &mut lent[0..count])
 }
 
-fn best_route_with(nodes: &[u8], roads: &[u8], asked: PlanQuestion, list: &mut [u16]) {
+fn best_route_with(
+    rt: &impl Print,
+    nodes: &[u8],
+    roads: &[u8],
+    asked: PlanQuestion,
+    list: &mut [u16],
+) -> io::Result<()> {
     let given = planner::plan_numbers(planner::best_route(nodes, roads, asked, list));
     shown::numbers(
+        rt,
         [
             given.number,
             given.place,
@@ -224,28 +275,40 @@ fn best_route_with(nodes: &[u8], roads: &[u8], asked: PlanQuestion, list: &mut [
             given.spilled,
         ],
         7,
-    );
-    shown::roads(list);
+    )?;
+    shown::roads(rt, list)
 }
 
 // The list is lent, each entry as a charge.
-fn set_off(nodes: &[u8], roads: &[u8], asked: PlanQuestion, list: &[u16]) {
+fn set_off(
+    rt: &impl Print,
+    nodes: &[u8],
+    roads: &[u8],
+    asked: PlanQuestion,
+    list: &[u16],
+) -> io::Result<()> {
     let mut charges = charges_of(list);
     let count = list.len();
     if MOST_LIST < count {
-        return;
+        return Ok(());
     }
-    set_off_with(nodes, roads, asked, &mut charges[0..count]);
+    set_off_with(rt, nodes, roads, asked, &mut charges[0..count])
 }
 
-fn set_off_with(nodes: &[u8], roads: &[u8], asked: PlanQuestion, list: &mut [i32]) {
+fn set_off_with(
+    rt: &impl Print,
+    nodes: &[u8],
+    roads: &[u8],
+    asked: PlanQuestion,
+    list: &mut [i32],
+) -> io::Result<()> {
     let question = SetOffQuestion {
         battery: asked.battery,
         depot: asked.source,
     };
     let given = planner::check_numbers(depot::set_off(nodes, roads, question, list));
-    shown::numbers([given.number, given.place, 0, 0, 0, 0, 0], 2);
-    shown::charges(list);
+    shown::numbers(rt, [given.number, given.place, 0, 0, 0, 0, 0], 2)?;
+    shown::charges(rt, list)
 }
 
 // A number that is asked for, or none.
@@ -303,9 +366,5 @@ fn charge_of(entry: u16) -> i32 {
 
 // The signed number of these bits.
 fn signed(bits: u64) -> i64 {
-    if bits < 9223372036854775808 {
-        bits as i64
-    } else {
-        -1 - ((18446744073709551615 - bits) as i64)
-    }
+    bits.cast_signed()
 }

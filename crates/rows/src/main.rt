@@ -10,29 +10,49 @@
 // stand 22 times, and `5b` at the end cuts the list to 5 bytes. A row is printed as its name, the
 // numbers given back, and the lent list if there is one; any other line as a bad row.
 #![tactic(auto)]
+
+ghost use Rattle.std.specs.Prelude.{◌≤◌, IfOk, length};
+
 mod entries;
 mod files;
 mod notation;
 mod shown;
 
-use bytes::scan::find;
 use files::Network;
-use libc::STDIN_FILENO;
+use notation::find;
+use std::io;
+use std::io::Read;
 
 // Room for the rows.
 const TEXT_ROOM: usize = 65536;
 
-fn main() {
+fn main(rt: HostRuntime) -> io::Result<()> {
     let mut text = [0u8; TEXT_ROOM];
-    let size = io::read_full(STDIN_FILENO, &mut text);
-    run(&text[..size]);
+    let size = read_full(&mut rt.reader(), &mut text)?;
+    run(&rt, &text[..size])?;
     if size == TEXT_ROOM {
-        shown::bad_row(0);
+        shown::bad_row(&rt, 0)?;
     }
+    Ok(())
+}
+
+// Reads until the room is full or the input ends, and answers how many bytes came.
+fn read_full(input: &mut impl Read, room: &mut [u8]) -> io::Result<usize>
+    ensures { IfOk result (λ n. n ≤ length room.new) }
+{
+    let mut size = 0;
+    while size < room.len() {
+        let more = input.read(&mut room[size..])?;
+        if more == 0 {
+            break;
+        }
+        size += more;
+    }
+    Ok(size)
 }
 
 // Line by line, from no network.
-fn run(text: &[u8]) {
+fn run(rt: &impl Print, text: &[u8]) -> io::Result<()> {
     let mut network = Network {
         junctions: text.len(),
         roads: text.len(),
@@ -40,26 +60,34 @@ fn run(text: &[u8]) {
     let mut at = 0;
     let mut number = 1;
     while at < text.len() {
-        let end = find(text, at, text.len(), b'\n');
-        network = run_line(text, network, &text[at..end], at, number);
+        let end = find(text, at, b'\n');
+        network = run_line(rt, text, network, &text[at..end], at, number)?;
         at = end + 1;
         number += 1;
     }
+    Ok(())
 }
 
 // A comment, a line of a file or a row; the network after it.
-fn run_line(text: &[u8], network: Network, line: &[u8], at: usize, number: u64) -> Network {
+fn run_line(
+    rt: &impl Print,
+    text: &[u8],
+    network: Network,
+    line: &[u8],
+    at: usize,
+    number: u64,
+) -> io::Result<Network> {
     if is_comment(line) {
-        return network;
+        return Ok(network);
     }
-    let colon = find(line, 0, line.len(), b':');
+    let colon = find(line, 0, b':');
     if colon == line.len() {
-        return files::set_file(network, line, at, number);
+        return files::set_file(rt, network, line, at, number);
     }
-    if !entries::ask(text, network, line, colon) {
-        shown::bad_row(number);
+    if !entries::ask(rt, text, network, line, colon)? {
+        shown::bad_row(rt, number)?;
     }
-    network
+    Ok(network)
 }
 
 // Whether a line is skipped.

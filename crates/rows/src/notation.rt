@@ -1,5 +1,6 @@
 // How a line is read. A reader takes a place of the line and answers the place after what it read, or
 // NOWHERE where that does not stand there; what is read from NOWHERE on is nowhere too.
+ghost use Rattle.std.specs.Prelude.{◌≤◌, ◌×◌, length};
 
 // No place of a line, and no size.
 pub const NOWHERE: usize = 18446744073709551615;
@@ -61,6 +62,19 @@ struct Listing {
     left: u8,
 }
 
+// The place of the first such byte from a place on, or the line's end.
+pub fn find(line: &[u8], from: usize, b: u8) -> usize
+    requires { from ≤ length line.now }
+    ensures { (from ≤ result) × (result ≤ length line.now) }
+{
+    for i in from..line.len() {
+        if line[i] == b {
+            return i;
+        }
+    }
+    line.len()
+}
+
 // A list of records that goes to the line's end.
 pub fn read_list(line: &[u8], at: usize, record: u8) -> File {
     let mut bytes = [0u8; LIST_ROOM];
@@ -108,7 +122,7 @@ pub fn read_number(line: &[u8], at: usize, kind: u8) -> Number {
     }
     let size = up_to(read_digits(line, minus), most_below(kind));
     Number {
-        bits: std::num::wrapping_sub_u64(0, size.bits),
+        bits: size.bits.wrapping_neg(),
         next: size.next,
     }
 }

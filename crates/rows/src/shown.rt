@@ -1,92 +1,72 @@
 // How a row is printed.
-use bytes::scan::find;
-use libc::STDOUT_FILENO;
+use crate::notation::find;
+use std::io;
 
 // The most numbers that an entry gives back.
 pub const MOST_GIVEN: usize = 7;
 
 // The name at the front of a row, up to its colon.
-pub fn name(row: &[u8]) {
-    let colon = find(row, 0, row.len(), b':');
-    text(&row[0..colon]);
-    byte(b':');
+pub fn name(rt: &impl Print, row: &[u8]) -> io::Result<()> {
+    let colon = find(row, 0, b':');
+    rt.write_all(&row[0..colon])?;
+    print!(rt; ":")
 }
 
 // The first `count` numbers.
-pub fn numbers(given: [u64; MOST_GIVEN], count: usize) {
+pub fn numbers(rt: &impl Print, given: [u64; MOST_GIVEN], count: usize) -> io::Result<()> {
     let mut i = 0;
     while i < MOST_GIVEN {
         if count <= i {
-            return;
+            return Ok(());
         }
-        number(given[i]);
+        number(rt, given[i])?;
         i += 1;
     }
+    Ok(())
 }
 
 // The lent list of a best route.
-pub fn roads(list: &[u16]) {
-    text(b", list");
-    let mut i = 0;
-    while i < list.len() {
-        road(list[i]);
-        i += 1;
+pub fn roads(rt: &impl Print, list: &[u16]) -> io::Result<()> {
+    print!(rt; ", list")?;
+    for x in list {
+        road(rt, *x)?;
     }
+    Ok(())
 }
 
 // The lent list of charges.
-pub fn charges(list: &[i32]) {
-    text(b", list");
-    let mut i = 0;
-    while i < list.len() {
-        charge(list[i]);
-        i += 1;
+pub fn charges(rt: &impl Print, list: &[i32]) -> io::Result<()> {
+    print!(rt; ", list")?;
+    for x in list {
+        charge(rt, *x)?;
     }
+    Ok(())
 }
 
-pub fn end() {
-    byte(b'\n');
+pub fn end(rt: &impl Print) -> io::Result<()> {
+    println!(rt; "")
 }
 
 // A line that is not in the notation; 0 stands for those that there is no room for.
-pub fn bad_row(line: u64) {
-    text(b"bad row");
-    number(line);
-    end();
+pub fn bad_row(rt: &impl Print, line: u64) -> io::Result<()> {
+    println!(rt; "bad row {line}")
 }
 
 // The bits of a signed number.
 pub fn bits(x: i64) -> u64 {
-    if x < 0 {
-        18446744073709551615 - (-1 - x) as u64
-    } else {
-        x as u64
-    }
+    x.cast_unsigned()
 }
 
-fn road(x: u16) {
-    number(x as u64);
+fn road(rt: &impl Print, x: u16) -> io::Result<()> {
+    print!(rt; " {x}")
 }
 
-fn charge(x: i32) {
-    number(bits(x as i64));
+fn charge(rt: &impl Print, x: i32) -> io::Result<()> {
+    print!(rt; " {x}")
 }
 
 // A space and a number by its bits.
-fn number(bits: u64) {
-    byte(b' ');
-    if bits < 9223372036854775808 {
-        io::print_decimal(STDOUT_FILENO, bits);
-    } else {
-        byte(b'-');
-        io::print_decimal(STDOUT_FILENO, 18446744073709551615 - bits + 1);
-    }
-}
-
-fn byte(b: u8) {
-    text(&[b]);
-}
-
-fn text(t: &[u8]) {
-    io::write_all(STDOUT_FILENO, t);
+fn number(rt: &impl Print, bits: u64) -> io::Result<()> {
+    let signed = bits.cast_signed();
+    print!(rt; " {signed}")
 }

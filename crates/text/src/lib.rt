@@ -1,6 +1,7 @@
 // The answers as text, into a lent buffer that suffices. Each function answers how many bytes at the
 // buffer's start are the text. Writing it out is the programs' own.
 #![tactic(auto)]
+
 ghost use Rattle.std.specs.Prelude.{◌+◌, ◌*◌, ◌≤◌, ◌<◌, ◌≡◌, length};
 ghost use Rattle.digits.specs.Puts.{Puts, Written};
 ghost use Rattle.text.specs.Answer.{number_lines, signed_lines, route_text, refused_text};
