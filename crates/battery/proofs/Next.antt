@@ -1,20 +1,21 @@
 -- One road more after a route, as the code computes it, and that its sums fit. Assumes nothing.
-use mathlib.Core.Path.{◌≡◌, refl, ap}
+use mathlib.Core.Path.{◌≡◌, refl, ap, ◌∙◌}
 use mathlib.Core.Bool.{Bool, true, false}
 use Prim.Native.Nat.{ℕ, ◌+◌, ◌-◌, ◌≤◌, ◌<◌, ◌^◌, min, max}
 use native.Mathlib.Decide.{dec_le}
 use native.Mathlib.Omega.{arith}
 use borrow.Author.Tests.{le-leb, lt-leb}
-use lib.IntN.{pos, ◌+ℤ◌, +ℤ_comm}
+use lib.IntN.{ℤ, pos, ◌+ℤ◌, +ℤ_comm}
 use lib.Signed.{mag}
+use mir.Facts.{to_z_pos, to_z-of_z}
 use mir.Syntax.{w32, w64}
 use mir.Val.{SFits, to_z, of_z}
 use Rattle.numbers.specs.Signed.{draw, gain}
 use Rattle.numbers.proofs.Diff.{draw_add, mag_le, mag_plus}
-use Rattle.numbers.proofs.Bits.{back64}
+use Rattle.numbers.proofs.Bits.{back32, back64, wide_back}
 use Rattle.battery.specs.Rule.{most_battery, most_consumption, drivable, needs}
 use Rattle.battery.specs.Profile.{road_profile, one_road, joined, followed_by, pick_passage}
-use Rattle.battery.specs.Ready.{Extends}
+use Rattle.battery.specs.Ready.{Ranged, Extends}
 use Rattle.battery.specs.declared.Battery.{Battery}
 use Rattle.battery.specs.declared.Road.{Road}
 use Rattle.battery.specs.declared.Profile.{Profile}
@@ -62,7 +63,13 @@ next_sum B p r {q} h e = go (dec_le (needs B r) p.top)
     go (yes k) = let f : q ≡ next B p r = cc (next_on B p r h k) in ap (λ (x : Profile). x.sum) f
     go (no k) = let z : ◌≡◌ {A = ℕ} 0 1 = cc (next_low B p r (omega arith)) in absurd (omega arith)
 
--- ---- what fits, by the bounds of Extends
+-- ---- what fits, by the bounds of Ranged and Extends
+
+-- a consumption in its range is what its bits read back as
+pub used_back : {r : Road} → Ranged r → to_z w32 (of_z w32 r.consumption) ≡ r.consumption
+used_back {r} g =
+    let h = mag_le r.consumption most_consumption g.draw_le g.gain_le in
+    back32 (omega arith)
 
 module _ {B : Battery} {p : Profile} {r : Road} (E : Extends B p r) where
   pub used_fits : SFits w32 r.consumption
@@ -85,6 +92,19 @@ module _ {B : Battery} {p : Profile} {r : Road} (E : Extends B p r) where
   reach_fits =
       let h = mag_plus (2 ^ 62 + 1) (2 ^ 31) p.sum (pos (draw r.consumption)) sum_mag (omega arith) in
       record { sfits = omega arith }
+
+  -- what the code reads back: the sum of both, and the reach
+  pub sum_read : to_z w64 (of_z w64 (to_z w64 (of_z w64 p.sum) +ℤ to_z w64 (of_z w64 (to_z w32 (of_z w32 r.consumption)))))
+      ≡ p.sum +ℤ r.consumption
+  sum_read =
+      ap (λ (z : ℤ). to_z w64 (of_z w64 z)) (λ i. sum_back i +ℤ wide_back used_fits i) ∙ to_z-of_z sum_fits
+
+  pub reach_read : {n : ℕ} → n ≡ draw r.consumption
+      → to_z w64 (of_z w64 (to_z w64 (of_z w64 p.sum) +ℤ to_z w64 n)) ≡ p.sum +ℤ pos (draw r.consumption)
+  reach_read {n} e =
+      let d = E.ranged.draw_le in
+      let k = to_z_pos w64 {n = n} (omega arith) ∙ ap pos e in
+      ap (λ (z : ℤ). to_z w64 (of_z w64 z)) (λ i. sum_back i +ℤ k i) ∙ to_z-of_z reach_fits
 
   pub reach_le : draw r.consumption ≤ p.top → draw (p.sum +ℤ pos (draw r.consumption)) ≤ most_battery
   reach_le k = let e = draw_add p.sum (pos (draw r.consumption)) in omega arith
