@@ -19,6 +19,7 @@ pub const MOST_JUNCTIONS: usize = 2048;
 pub const MOST_ROADS: usize = 8192;
 
 // Network check: 1, 2, then the records.
+#[tactic(auto, unfolding(crate::specs::Check::check_fault))]
 pub fn check(nodes: &[u8], roads: &[u8]) -> Checked
     ensures { result ≡ check_fault nodes.now roads.now }
 {
@@ -104,6 +105,7 @@ fn check_record(nodes: &[u8], k: usize, road: Road) -> Checked
 }
 
 // Record k's ends among `count` junctions, and its consumption: 7, 8.
+#[tactic(auto, unfolding(crate::specs::Check::road_fault))]
 pub fn check_road(count: usize, k: usize, road: Road) -> Checked
     ensures { result ≡ road_fault count k road }
 {
@@ -120,6 +122,7 @@ pub fn check_road(count: usize, k: usize, road: Road) -> Checked
 }
 
 // Record k's sum after potentials: 9.
+#[tactic(auto, unfolding(crate::specs::Check::potential_fault))]
 pub fn check_potential(nodes: &[u8], k: usize, road: Road) -> Checked
     requires { (road.tail < junctions nodes.now) × (road.head < junctions nodes.now) }
     ensures { result ≡ potential_fault nodes.now k road }
