@@ -1,6 +1,7 @@
 // How roads are read, forward or backward: which end is entered, what label a road brings, and the
 // number of a junction. A label is an amount plus one, and 0 is none.
 #![tactic(auto)]
+
 ghost use Rattle.std.specs.Prelude.{◌≡◌, min};
 ghost use Rattle.reading.specs.Asks.{StepAsks};
 ghost use Rattle.reading.specs.Reading.{entered, left, step_forward, step_backward, step_of, psi_forward, psi_backward, psi_of};

@@ -1,5 +1,6 @@
 // A given route, place by place: driven, and profiled for all start charges.
 #![tactic(auto)]
+
 ghost use Rattle.std.specs.Prelude.{◌≡◌};
 ghost use Rattle.routes.specs.Places.{entry_fault, begin_fault};
 ghost use Rattle.routes.specs.Steps.{enters, DriveAsks, DriveKeeps, PlaceAsks, drive_place, ProfileAsks, ProfileKeeps, ExtendAsks, profile_place};
@@ -87,6 +88,7 @@ pub fn profile_route(roads: &[u8], route: &[u16], source: usize, battery: Batter
 }
 
 // Place i, where the van stands at the junction `at`: 12, 13, 14.
+#[tactic(auto, using(crate::proofs::Places::is_road), unfolding(crate::specs::Steps::drive_place))]
 fn drive_place(roads: &[u8], entry: u16, i: usize, at: usize, van: Van) -> DriveStep
     requires { PlaceAsks roads.now i van }
     ensures { result ≡ drive_place roads.now entry i at van }
@@ -104,6 +106,7 @@ fn drive_place(roads: &[u8], entry: u16, i: usize, at: usize, van: Van) -> Drive
 }
 
 // Place i of a route whose profile up to there is `profile`: 12, 13, 15.
+#[tactic(auto, using(crate::proofs::Places::is_road), unfolding(crate::specs::Steps::profile_place))]
 fn profile_place(
     roads: &[u8],
     entry: u16,
@@ -128,6 +131,7 @@ fn profile_place(
 }
 
 // Whether the entry of place i names a road from the junction `at`: 12, 13.
+#[tactic(auto, unfolding(crate::specs::Steps::enters))]
 fn enter(roads: &[u8], entry: u16, i: usize, at: usize) -> Checked
     ensures { result ≡ enters roads.now entry i at }
 {
