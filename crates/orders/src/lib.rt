@@ -1,6 +1,7 @@
 // The tests of a question before any road is followed: those that several entries share, and each
 // entry's own order up to the records.
 #![tactic(auto)]
+
 ghost use Rattle.std.specs.Prelude.{◌≡◌, ◌-◌};
 ghost use Rattle.numbers.specs.Signed.{draw};
 ghost use Rattle.refusals.specs.Order.{first};
@@ -15,6 +16,7 @@ use promises::{DriveQuestion, PlanQuestion, ProfileQuestion, SetOffQuestion};
 use refusals::{Checked, Refusal};
 
 // Best route: 1 to 6, then the records.
+#[tactic(auto, unfolding(promises::specs::Order::plan_fault))]
 pub fn check_plan(nodes: &[u8], roads: &[u8], question: PlanQuestion, room: usize) -> Checked
     ensures { result ≡ plan_fault nodes.now roads.now question room }
 {
@@ -62,6 +64,7 @@ pub fn check_profile(
 }
 
 // The charges to set off with: 1, 2, 3, 5 (depot), 6, then the records.
+#[tactic(auto, unfolding(promises::specs::Order::set_off_fault))]
 pub fn check_set_off(nodes: &[u8], roads: &[u8], question: SetOffQuestion, room: usize) -> Checked
     ensures { result ≡ set_off_fault nodes.now roads.now question room }
 {

@@ -1,31 +1,33 @@
 // The cab program: one line on standard input, nodes.bin and roads.bin from the current folder, the
 // answer on standard output. What is written is decided by `respond`.
 #![tactic(auto)]
+
 ghost use Rattle.std.specs.Prelude.{◌≡◌, take};
-ghost use Rattle.io.specs.Counts.{IsPrefixLen};
+ghost use Rattle.digits.specs.Counts.{IsPrefixLen};
 ghost use Rattle.programs.specs.Program.{Responds};
 ghost use Rattle.programs.specs.Shared.{Small, Lent};
 ghost use Rattle.text.specs.Answer.{most_route};
 ghost use Rattle.text.specs.Room.{route_room};
 ghost use Rattle.plan.specs.Response.{question, plan_program};
 
-use libc::STDOUT_FILENO;
 use programs::{Begun, MOST_NUMBER, NODES_ROOM, ROADS_ROOM};
 use promises::{PlanQuestion, Planned};
+use std::io;
+use std::io::Write;
 use text::MOST_ROUTE;
 
 // The numbers of the line: battery, start, source, target.
 const NUMBERS: usize = 4;
 
-fn main() {
+fn main(rt: HostRuntime) -> io::Result<()> {
     let mut line = [0u8; NUMBERS * MOST_NUMBER];
     let mut nodes = [0u8; NODES_ROOM];
     let mut roads = [0u8; ROADS_ROOM];
-    let read = programs::read_inputs(&mut line, &mut nodes, &mut roads);
+    let read = programs::read_inputs(&rt, &mut line, &mut nodes, &mut roads);
     let n = read.line;
     let a = read.nodes;
     let count = respond(&line[..n], read.files, &nodes[..a], &mut roads, read.roads);
-    io::write_all(STDOUT_FILENO, &roads[..count]);
+    io::writer(&rt).write_all(&roads[..count])
 }
 
 // What is written: how many bytes at the start of `roads`. The file of the roads is its first `size`

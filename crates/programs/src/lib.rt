@@ -1,12 +1,15 @@
 // What the programs share: they read a line of numbers from standard input and the two files of the
 // current folder, and write `bad query`, `no file` or what the library answers.
 #![tactic(auto)]
+
 ghost use Rattle.std.specs.Prelude.{◌≤◌, length};
-ghost use Rattle.io.specs.Counts.{IsPrefixLen};
+ghost use Rattle.digits.specs.Counts.{IsPrefixLen};
 ghost use Rattle.programs.specs.Shared.{Reads, Begins};
 ghost use Rattle.programs.specs.Program.{bad_query};
 
-use libc::STDIN_FILENO;
+use std::fs;
+use std::io::Read;
+use std::rt::Files;
 
 // The most bytes of a number of the line, with the byte after it.
 pub const MOST_NUMBER: usize = digits::MOST_DIGITS + 1;
@@ -40,12 +43,17 @@ pub enum Begun {
     Numbers,
 }
 
-pub fn read_inputs(line: &mut [u8], nodes: &mut [u8], roads: &mut [u8]) -> Inputs
+pub fn read_inputs(
+    rt: &(impl Files + Input),
+    line: &mut [u8],
+    nodes: &mut [u8],
+    roads: &mut [u8],
+) -> Inputs
     ensures { Reads line.new nodes.new roads.new result }
 {
-    let n = read_line(line);
-    let first = read_file(b"nodes.bin", nodes);
-    let second = read_file(b"roads.bin", roads);
+    let n = read_line(&mut rt.reader(), line);
+    let first = read_file(rt, "nodes.bin", nodes);
+    let second = read_file(rt, "roads.bin", roads);
     Inputs {
         line: n,
         files: first.ok && second.ok,
@@ -71,13 +79,15 @@ pub fn begin(line: &[u8], files: bool, list: &mut [u64], out: &mut [u8]) -> Begu
 
 // The bytes of the first line with its newline, or as many as there is room for. It reads byte by
 // byte, so that it waits for nothing past the line.
-fn read_line(line: &mut [u8]) -> usize
+fn read_line(input: &mut impl Read, line: &mut [u8]) -> usize
     ensures { IsPrefixLen result line.new }
 {
     let mut n = 0;
     while n < line.len() {
         let next = n + 1;
-        let got = libc::read(STDIN_FILENO, &mut line[n..next]);
+        let Ok(got) = input.read(&mut line[n..next]) else {
+            break;
+        };
         if got < 1 {
             break;
         }
@@ -89,23 +99,20 @@ fn read_line(line: &mut [u8]) -> usize
     n
 }
 
-fn read_file(path: &[u8], room: &mut [u8]) -> Got
+fn read_file(files: &impl Files, path: &str, room: &mut [u8]) -> Got
     ensures { IsPrefixLen result.count room.new }
 {
-    let file = os::open_read(path);
-    if file < 0 {
+    let Ok(mut file) = fs::open(files, path) else {
         return Got {
             ok: false,
             count: 0,
         };
-    }
-    let got = read_all(file, room);
-    libc::close(file);
-    got
+    };
+    read_all(&mut file, room)
 }
 
 // Reads until the room is full or the file ends; a read that fails is told.
-fn read_all(file: i32, room: &mut [u8]) -> Got
+fn read_all(file: &mut impl Read, room: &mut [u8]) -> Got
     ensures { IsPrefixLen result.count room.new }
 {
     let mut count = 0;
@@ -113,14 +120,12 @@ fn read_all(file: i32, room: &mut [u8]) -> Got
         if room.len() <= count {
             break Got { ok: true, count };
         }
-        let got = libc::read(file, &mut room[count..]);
-        if got < 0 {
+        let Ok(more) = file.read(&mut room[count..]) else {
             break Got {
                 ok: false,
                 count: 0,
             };
-        }
-        let more = io::count(got, &room[count..]);
+        };
         if more == 0 {
             break Got { ok: true, count };
         }

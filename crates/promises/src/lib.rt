@@ -1,6 +1,7 @@
 // What the public entries are asked, and what they give back. What each promises is in specs/, what is
 // proved of the promises in proofs/; there is no code.
 #![tactic(auto)]
+
 use battery::Van;
 use refusals::Refusal;
 

@@ -1,5 +1,6 @@
 // The search for the best label of each junction. A label is an amount plus one, and 0 is none.
 #![tactic(auto)]
+
 ghost use Rattle.std.specs.Prelude.{◌≡◌, ◌+◌, ◌^◌, ◌<◌};
 ghost use Rattle.network.specs.Files.{junctions, road_count};
 ghost use Rattle.reading.specs.Reading.{psi, net};

@@ -1,0 +1,7 @@
+use Rattle.std.proofs.Common.{arith}
+use Rattle.frontier.proofs.Queue.{regrouped}
+use Rattle.frontier.proofs.regroup.Goals as goal
+
+pub returns-clause-regrouped : goal.returns-clause-regrouped
+returns-clause-regrouped c =
+    regrouped c.args.queue.now c.args.a c.args.x (omega arith) c.best8-others.ensures.run c.larger.ensures
