@@ -30,7 +30,7 @@ fn a_c_program_over_the_header_gets_the_numbers() {
         .arg("-o")
         .arg(&program)
         .arg(here.join("tests/boundary.c"))
-        .arg(here.join("../target/staticlib/libsedge.a"))
+        .arg(here.join("../crates/sedge/out/libsedge.a"))
         .output()
         .expect("cc, a C compiler, is on the path");
     assert!(compiled.status.success(), "{}", String::from_utf8_lossy(&compiled.stderr));

@@ -725,8 +725,8 @@ impl Output {
 
 impl Program {
     fn path(&self) -> PathBuf {
-        let path = Path::new(env!("CARGO_MANIFEST_DIR")).join("../target/bin").join(self.name);
-        path.canonicalize().unwrap_or_else(|_| panic!("target/bin/{0} is not built: run rt check {0}", self.name))
+        let path = Path::new(env!("CARGO_MANIFEST_DIR")).join(format!("../crates/{0}/out/{0}", self.name));
+        path.canonicalize().unwrap_or_else(|_| panic!("{0} is not built: run rt check in crates/{0}", self.name))
     }
 }
 
