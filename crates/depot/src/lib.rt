@@ -2,6 +2,7 @@
 // from which some walk to the depot is feasible. Like the planner's entries it takes any bytes and
 // any numbers, asks nothing of its caller, and ends with its answer or with one numbered refusal.
 #![tactic(auto)]
+
 ghost use Rattle.std.specs.Prelude.{◌≡◌};
 ghost use Rattle.promises.specs.Given.{check_numbers};
 ghost use Rattle.promises.specs.Promises.{Numbered, SetsOff};

@@ -28,7 +28,6 @@ use Rattle.promises.specs.declared.Planned.TheVariants as planned
 use Rattle.promises.specs.declared.PlanQuestion.{PlanQuestion}
 use Rattle.promises.proofs.Passed.{battery_whole, start_whole}
 use Rattle.promises.specs.Passed.{PlanPassed}
-use Rattle.planner.proofs.Entries.{sets_out}
 
 -- the trip that is searched: the label is the charge of the van that sets out, plus one
 abbrev pub trip_for : PlanQuestion → Van → Trip

@@ -1,6 +1,7 @@
 // The public entries. Each takes any bytes and any numbers, asks nothing of its caller, and ends
 // with its answer or with one numbered refusal.
 #![tactic(auto)]
+
 ghost use Rattle.std.specs.Prelude.{◌≡◌};
 ghost use Rattle.promises.specs.Given.{check_numbers, plan_numbers, drive_numbers, profile_numbers};
 ghost use Rattle.promises.specs.Promises.{Checks, Plans, Drives, Profiles};

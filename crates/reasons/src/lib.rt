@@ -1,5 +1,6 @@
 // Why there is no route, in the lists of the search that found none.
 #![tactic(auto)]
+
 ghost use Rattle.lists.specs.Lists.{AllZero};
 ghost use Rattle.journeys.specs.Reasons.{Reason};
 ghost use Rattle.walks.specs.Label.{Best};

@@ -1,6 +1,7 @@
 // The C boundary: the five public entries under their C names. A file or a list is a pointer and a
 // length; the answers are the planner's numbers, by value. include/sedge.h declares them for C.
 #![tactic(auto)]
+
 ghost use Rattle.promises.specs.Promises.{SetsOff};
 ghost use Rattle.promises.specs.Promises.{Checks, Plans, Drives, Profiles};
 ghost use Rattle.sedge.specs.Questions.{plan_question, drive_question, profile_question, set_off_question};

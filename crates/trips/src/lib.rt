@@ -1,5 +1,6 @@
 // One trip: the best route, or why there is none. All searches of a trip share one set of lists.
 #![tactic(auto)]
+
 ghost use Rattle.reading.specs.Reading.{net};
 ghost use Rattle.trips.specs.Asks.{FindAsks};
 ghost use Rattle.trips.specs.Found.{Finds};

@@ -1,4 +1,4 @@
-use Rattle.search.proofs.Exploring.{target_settled, explore_next, explore_less, none_waits}
+use Rattle.search.proofs.Exploring.{spread_asks, target_settled, explore_next, explore_less, none_waits}
 use Rattle.search.proofs.Starting.{first_raises, explore_start}
 use Rattle.search.proofs.explore.Goals as goal
 
@@ -20,6 +20,10 @@ returns-then-u-trip c =
     c.if-u-trip.true
 
 -- the next turn
+pub spread-top-requires : goal.spread-top-requires
+spread-top-requires c =
+    spread_asks _ _ _ _ _ _ _ _ c.requires _ _ _ _ c.loop-top.invariant c.if-top-eq0.false _ _ c.remove-rest.ensures
+
 pub loop-top-smaller : goal.loop-top-smaller
 loop-top-smaller c =
     explore_less _ _ _ _ _ _ _ _ c.requires _ _ _ _ c.loop-top.invariant c.if-top-eq0.false _ _ c.remove-rest.ensures
