@@ -1,6 +1,6 @@
 // How a line is read. A reader takes a place of the line and answers the place after what it read, or
 // NOWHERE where that does not stand there; what is read from NOWHERE on is nowhere too.
-ghost use Rattle.std.specs.Prelude.{◌≤◌, ◌×◌, length};
+ghost use Rattle.std.specs.Prelude.{◌≤◌, length};
 
 // No place of a line, and no size.
 pub const NOWHERE: usize = 18446744073709551615;

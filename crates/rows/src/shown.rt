@@ -14,13 +14,8 @@ pub fn name(rt: &impl Print, row: &[u8]) -> io::Result<()> {
 
 // The first `count` numbers.
 pub fn numbers(rt: &impl Print, given: [u64; MOST_GIVEN], count: usize) -> io::Result<()> {
-    let mut i = 0;
-    while i < MOST_GIVEN {
-        if count <= i {
-            return Ok(());
-        }
-        number(rt, given[i])?;
-        i += 1;
+    for x in given.iter().take(count) {
+        number(rt, *x)?;
     }
     Ok(())
 }
