@@ -14,4 +14,4 @@ overflow_add-value c = let h = run_small c.loop-b.invariant in omega arith
 
 pub loop-b-preserved : goal.loop-b-preserved
 loop-b-preserved c =
-    run_more c.loop-b.invariant c.byte-b.ensures (omega arith) (omega arith) c.if-next-i-ge-MOST_DIGITS.false c.wide.ensures
+    run_more c.loop-b.invariant c.byte-b.ensures (omega arith) (omega arith) (omega arith) c.wide.ensures
