@@ -726,7 +726,7 @@ impl Output {
 impl Program {
     fn path(&self) -> PathBuf {
         let path = Path::new(env!("CARGO_MANIFEST_DIR")).join(format!("../crates/{0}/out/{0}", self.name));
-        path.canonicalize().unwrap_or_else(|_| panic!("{0} is not built: run rt check in crates/{0}", self.name))
+        path.canonicalize().unwrap_or_else(|_| panic!("{0} is not built: rt run in crates/{0}", self.name))
     }
 }
 

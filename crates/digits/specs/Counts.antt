@@ -1,4 +1,4 @@
--- How many of a buffer's bytes are filled. No promise cites it.
+-- How many of a buffer's bytes are filled: what `plan` and `setoff` write lies within theirs.
 use Rattle.std.specs.Prelude.{◌≡◌, List, ℕ, ◌≤◌, length, take}
 
 -- the first n bytes are within the buffer, and n they are. The second part follows from the first
