@@ -1,13 +1,15 @@
--- Laws of a number's decimal digits: how they are written from the last on, and how many they are. Assumes nothing.
-use mathlib.Core.Path.{◌≡◌, refl, sym, ◌∙◌}
+-- Laws of a number's decimal digits: they are those that the kit writes, and how many they are. Assumes nothing.
+use mathlib.Core.Path.{◌≡◌, refl, ap, subst}
 use mathlib.Core.Bool.{Bool, true, false, cond}
-use mathlib.Core.List.{List, [], ◌∷◌, ◌++◌, append_assoc, append-nil}
+use mathlib.Core.List.{List, [], ◌∷◌, ◌++◌}
 use Prim.Native.Nat.{ℕ, zero, suc, ◌+◌, ◌-◌, ◌*◌, ◌/◌, ◌%◌, ◌^◌, ◌≤◌, ◌<◌}
-use native.Mathlib.Nat.{pow-succ'}
+use native.Mathlib.Nat.{pow-succ', one-le-pow, pow-le-pow_right}
+use native.Mathlib.Decide.{dec_lt}
 use native.Mathlib.Omega.{arith}
 use borrow.Author.Tests.{lt-ltb, le-ltb, ltb-true, ltb-false}
-use lib.Dec.{ltb}
+use lib.Dec.{ltb, lit<}
 use lib.ListN.{length, length-append}
+use Rattle.io.specs.Digits.{last_digits, hex_digit_ascii, IsDigitCount}
 use Rattle.digits.specs.Line.{newline}
 use Rattle.digits.specs.Decimal.{spell, decimal, number_line}
 
@@ -28,35 +30,43 @@ spelling f n = go (ltb n 10) (ltb-true n 10) (ltb-false n 10)
 pub tenth_lt : (n k : ℕ) → n < 10 ^ suc k → n / 10 < 10 ^ k
 tenth_lt n k h = let p : 10 ^ suc k ≡ 10 * 10 ^ k = pow-succ' 10 k in omega arith
 
--- ---- written from the last digit on: the digits of the rest, which has k + 1 at most, and those that stand
-pub record Spelt (n rest k : ℕ) (t : List ℕ) : Type 0 where
-  pub fits : rest < 10 ^ suc k
-  pub digits : spell k rest ++ t ≡ decimal n
+-- ---- the kit's digits
+glyph_is : (d : ℕ) → d < 10 → hex_digit_ascii d ≡ 48 + d
+glyph_is d h = rw (lt-ltb d 10 h)
 
-pub spelt_none : (n : ℕ) → n < 2 ^ 64 → Spelt n n 19 []
-spelt_none n h = record { fits = omega arith; digits = append-nil (decimal n) }
-
-pub spelt_more : {n rest k : ℕ} {t : List ℕ} → Spelt n rest k t → 10 ≤ rest → Spelt n (rest / 10) (k - 1) ((48 + rest % 10) ∷ t)
+-- n of exactly k + 1 digits
+same_digits : (k f n : ℕ) → k ≤ f → n < 10 ^ suc k → (0 < k → 10 ^ k ≤ n) → last_digits 10 (suc k) n ≡ spell f n
 unfolding spell
-spelt_more {k = zero} s h = let f = s.fits in absurd (omega arith)
-spelt_more {rest} {k = suc k} {t} s h =
-    let b = le-ltb rest 10 h in
-    let e : suc k - 1 ≡ k = omega arith in
-    rw e
-    (record {
-      fits = tenth_lt rest (suc k) s.fits;
-      digits = sym (append_assoc (spell k (rest / 10)) ((48 + rest % 10) ∷ []) t) ∙ (rw b at s.digits);
-    })
+same_digits zero zero n l h m = let e : n % 10 ≡ n = omega arith in rw (glyph_is (n % 10) (omega arith), e)
+same_digits zero (suc f) n l h m =
+    let e : n % 10 ≡ n = omega arith in
+    let b = lt-ltb n 10 (omega arith) in
+    rw (glyph_is (n % 10) (omega arith), e, b)
+same_digits (suc k) zero n l h m = absurd (omega arith)
+same_digits (suc k) (suc f) n l h m =
+    let q : 10 ^ suc k ≡ 10 * 10 ^ k = pow-succ' 10 k in
+    let t = one-le-pow k 10 (omega arith) in
+    let r = m (omega arith) in
+    let b = le-ltb n 10 (omega arith) in
+    let ih = same_digits k f (n / 10) (omega arith) (tenth_lt n (suc k) h) (λ z. omega arith) in
+    rw (glyph_is (n % 10) (omega arith), b) (ap (λ (u : List ℕ). u ++ ((48 + n % 10) ∷ [])) ih)
 
-pub spelt_last : {n rest k : ℕ} {t : List ℕ} → Spelt n rest k t → rest < 10 → (48 + rest) ∷ t ≡ decimal n
-unfolding spell
-spelt_last {k = zero} s h = s.digits
-spelt_last {rest} {k = suc k} s h = let b = lt-ltb rest 10 h in rw b at s.digits
+-- a number of 64 bits has at most twenty
+pub at_most_twenty : (n k : ℕ) → n < 2 ^ 64 → IsDigitCount 10 1 n k → k ≤ 20
+at_most_twenty n k h f = go (dec_lt 20 k)
+  where
+    go : Dec (20 < k) → k ≤ 20
+    go (yes l) =
+        let a = f.2 (omega arith) in
+        let b : 10 ^ 20 ≤ 10 ^ (k - 1) = pow-le-pow_right {n = 10} (lit< tt) {i = 20} {j = k - 1} (omega arith) in
+        absurd (omega arith)
+    go (no l) = omega arith
 
--- a rest of two digits leaves room for another
-pub spelt_room : {n rest k : ℕ} {t : List ℕ} → Spelt n rest k t → 10 ≤ rest → 0 < k
-spelt_room {k = zero} s h = let f = s.fits in absurd (omega arith)
-spelt_room {k = suc k} s h = omega arith
+pub decimal_is : (n k : ℕ) → n < 2 ^ 64 → IsDigitCount 10 1 n k → last_digits 10 k n ≡ decimal n
+decimal_is n zero h f = absurd (omega (arith, f.0))
+decimal_is n (suc k) h f =
+    let l = at_most_twenty n (suc k) h f in
+    same_digits k 19 n (omega arith) f.1 (λ z. subst (λ (j : ℕ). 10 ^ j ≤ n) (omega arith) (f.2 (omega arith)))
 
 -- ---- how many there are
 spell_length : (f n k : ℕ) → n < 10 ^ suc k → length (spell f n) ≤ suc k

@@ -1,6 +1,6 @@
 -- What the writer's functions keep. No promise cites it.
 use Rattle.std.specs.Prelude.{◌≡◌, List, ◌++◌, ℕ, ◌+◌, ◌≤◌, length, take}
-use Rattle.digits.specs.Counts.{IsPrefixLen}
+use Rattle.io.specs.Counts.{IsPrefixLen}
 
 -- o is the buffer before, o' after: its first bytes stay up to `from`, the text t follows, and the next place is `to`
 pub record Puts (o : List ℕ) (from : ℕ) (t o' : List ℕ) (to : ℕ) : Type 0 where

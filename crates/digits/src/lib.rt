@@ -2,7 +2,7 @@
 // lent buffer. Opening files, reading and writing them is the programs' own.
 #![tactic(auto)]
 
-ghost use Rattle.std.specs.Prelude.{◌≡◌, ◌+◌, ◌<◌, ◌≤◌, drop};
+ghost use Rattle.std.specs.Prelude.{◌≡◌, ◌+◌, ◌≤◌};
 ghost use lib.ListN;
 ghost use lib.ListN.{length};
 ghost use Rattle.digits.specs.Decimal.{decimal, number_line, word_line, signed_line};
@@ -11,9 +11,6 @@ ghost use Rattle.digits.specs.Puts.{Puts, PutsFew};
 
 // The most digits of a number that is read.
 pub const MOST_DIGITS: usize = 10;
-
-// The most digits of a number that is written: one of 64 bits.
-const MOST_WRITTEN: usize = 20;
 
 // A number of the line and the place after the byte that ends it, or that none stands there.
 #[derive(Clone, Copy)]
@@ -142,25 +139,9 @@ pub fn put_decimal(out: &mut [u8], from: usize, n: u64) -> usize
     requires { from + 20 ≤ length out.old }
     ensures { PutsFew 20 out.old from (decimal n) out.new result }
 {
-    let mut digits = [0u8; MOST_WRITTEN];
-    let first = decimal_digits(n, &mut digits);
-    put(out, from, &digits[first..])
-}
-
-// Writes a number's digits at the end of the buffer, and answers where they begin.
-fn decimal_digits(n: u64, digits: &mut [u8; MOST_WRITTEN]) -> usize
-    ensures inside { result < 20 }
-    ensures digits_are { drop result digits.new ≡ decimal n }
-{
-    let mut first = MOST_WRITTEN - 1;
-    let mut rest = n;
-    while 10 <= rest {
-        digits[first] = b'0' + (rest % 10) as u8;
-        rest /= 10;
-        first -= 1;
-    }
-    digits[first] = b'0' + rest as u8;
-    first
+    let mut digits = [0u8; 20];
+    let k = io::decimal(n, &mut digits);
+    put(out, from, &digits[..k])
 }
 
 // The bytes of a word.

@@ -3,7 +3,7 @@
 #![tactic(auto)]
 
 ghost use Rattle.std.specs.Prelude.{◌≡◌, take};
-ghost use Rattle.digits.specs.Counts.{IsPrefixLen};
+ghost use Rattle.io.specs.Counts.{IsPrefixLen};
 ghost use Rattle.programs.specs.Program.{Responds};
 ghost use Rattle.programs.specs.Shared.{Small, Lent};
 ghost use Rattle.text.specs.Answer.{most_route};

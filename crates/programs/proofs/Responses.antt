@@ -4,7 +4,7 @@ use mathlib.Core.Bool.{Bool}
 use mathlib.Core.List.{List}
 use Prim.Native.Nat.{ℕ}
 use lib.ListN.{take}
-use Rattle.digits.specs.Counts.{IsPrefixLen}
+use Rattle.io.specs.Counts.{IsPrefixLen}
 use Rattle.digits.specs.Puts.{Written}
 use Rattle.digits.proofs.Lines.{line_small}
 use Rattle.programs.specs.Program.{Program, Responds}

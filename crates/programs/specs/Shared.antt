@@ -1,6 +1,6 @@
 -- What the functions that the programs share ask and keep. No promise cites it.
 use Rattle.std.specs.Prelude.{◌≡◌, Bool, true, false, List, ℕ, ◌^◌, ◌≤◌, ◌<◌, length, get_or}
-use Rattle.digits.specs.Counts.{IsPrefixLen}
+use Rattle.io.specs.Counts.{IsPrefixLen}
 use Rattle.digits.specs.Line.{Line}
 use Rattle.digits.specs.Puts.{Written}
 use Rattle.programs.specs.Program.{bad_query, no_file}

@@ -3,7 +3,7 @@
 #![tactic(auto)]
 
 ghost use Rattle.std.specs.Prelude.{◌≤◌, length};
-ghost use Rattle.digits.specs.Counts.{IsPrefixLen};
+ghost use Rattle.io.specs.Counts.{IsPrefixLen};
 ghost use Rattle.programs.specs.Shared.{Reads, Begins};
 ghost use Rattle.programs.specs.Program.{bad_query};
 
