@@ -67,12 +67,10 @@ pub fn find(line: &[u8], from: usize, b: u8) -> usize
     requires { from ≤ length line.now }
     ensures { (from ≤ result) × (result ≤ length line.now) }
 {
-    for i in from..line.len() {
-        if line[i] == b {
-            return i;
-        }
+    match line[from..].iter().position(|x| *x == b) {
+        Some(i) => from + i,
+        None => line.len(),
     }
-    line.len()
 }
 
 // A list of records that goes to the line's end.
