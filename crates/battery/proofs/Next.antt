@@ -12,7 +12,7 @@ use mir.Syntax.{w32, w64}
 use mir.Val.{SFits, to_z, of_z}
 use Rattle.numbers.specs.Signed.{draw, gain}
 use Rattle.numbers.proofs.Diff.{draw_add, mag_le, mag_plus}
-use Rattle.numbers.proofs.Bits.{back32, back64, wide_back}
+use Rattle.numbers.proofs.Bits.{back64, wide_back}
 use Rattle.battery.specs.Rule.{most_battery, most_consumption, drivable, needs}
 use Rattle.battery.specs.Profile.{road_profile, one_road, joined, followed_by, pick_passage}
 use Rattle.battery.specs.Ready.{Ranged, Extends}
@@ -65,18 +65,16 @@ next_sum B p r {q} h e = go (dec_le (needs B r) p.top)
 
 -- ---- what fits, by the bounds of Ranged and Extends
 
+pub used_fits : {r : Road} → Ranged r → SFits w32 r.consumption
+used_fits {r} g =
+    let h = mag_le r.consumption most_consumption g.draw_le g.gain_le in
+    record { sfits = omega arith }
+
 -- a consumption in its range is what its bits read back as
 pub used_back : {r : Road} → Ranged r → to_z w32 (of_z w32 r.consumption) ≡ r.consumption
-used_back {r} g =
-    let h = mag_le r.consumption most_consumption g.draw_le g.gain_le in
-    back32 (omega arith)
+used_back g = to_z-of_z (used_fits g)
 
 module _ {B : Battery} {p : Profile} {r : Road} (E : Extends B p r) where
-  pub used_fits : SFits w32 r.consumption
-  used_fits =
-      let h = mag_le r.consumption most_consumption E.ranged.draw_le E.ranged.gain_le in
-      record { sfits = omega arith }
-
   sum_mag : mag p.sum < 2 ^ 62 + 1
   sum_mag = let h = mag_le p.sum (2 ^ 62) (omega arith) (omega arith) in omega arith
 
@@ -85,7 +83,7 @@ module _ {B : Battery} {p : Profile} {r : Road} (E : Extends B p r) where
 
   pub sum_fits : SFits w64 (p.sum +ℤ r.consumption)
   sum_fits =
-      let h = mag_plus (2 ^ 62 + 1) (2 ^ 31) p.sum r.consumption sum_mag used_fits.sfits in
+      let h = mag_plus (2 ^ 62 + 1) (2 ^ 31) p.sum r.consumption sum_mag (used_fits E.ranged).sfits in
       record { sfits = omega arith }
 
   pub reach_fits : SFits w64 (p.sum +ℤ pos (draw r.consumption))
@@ -97,7 +95,7 @@ module _ {B : Battery} {p : Profile} {r : Road} (E : Extends B p r) where
   pub sum_read : to_z w64 (of_z w64 (to_z w64 (of_z w64 p.sum) +ℤ to_z w64 (of_z w64 (to_z w32 (of_z w32 r.consumption)))))
       ≡ p.sum +ℤ r.consumption
   sum_read =
-      ap (λ (z : ℤ). to_z w64 (of_z w64 z)) (λ i. sum_back i +ℤ wide_back used_fits i) ∙ to_z-of_z sum_fits
+      ap (λ (z : ℤ). to_z w64 (of_z w64 z)) (λ i. sum_back i +ℤ wide_back (used_fits E.ranged) i) ∙ to_z-of_z sum_fits
 
   pub reach_read : {n : ℕ} → n ≡ draw r.consumption
       → to_z w64 (of_z w64 (to_z w64 (of_z w64 p.sum) +ℤ to_z w64 n)) ≡ p.sum +ℤ pos (draw r.consumption)

@@ -1,8 +1,7 @@
-use Rattle.std.proofs.Common.{sym, ap, ◌∙◌, subst}
+use Rattle.std.proofs.Common.{sym, ◌∙◌, subst}
 use Rattle.battery.specs.declared.Battery.{Battery}
 use Rattle.promises.proofs.Bits.{battery_back, battery_bits}
 use Rattle.promises.proofs.Passed.{battery_whole, set_off_passed}
-use Rattle.promises.specs.Order.{battery_of}
 use Rattle.promises.specs.Promises.{Numbered, SetsOff}
 use Rattle.depot.specs.Filling.{FillAsks}
 use Rattle.depot.proofs.set_off.Goals as goal
@@ -18,7 +17,7 @@ pub fill-requires : goal.fill-requires
 fill-requires c =
     let a = c.args in
     let p = set_off_passed _ _ _ _ (sym c.in_default.ensures) in
-    let e = c.battery_of-battery.ensures ∙ ap battery_of (battery_back a.question.battery p.battery_ok) in
+    let e = c.battery_of-battery.ensures ∙ battery_back a.question.battery p.battery_ok in
     subst (λ (B : Battery). FillAsks a.nodes.now a.roads.now B a.question.depot a.list.now) (sym e)
     (record {
       files = p.files;
@@ -32,6 +31,6 @@ returns c =
     let a = c.args in
     let passed = sym c.in_default.ensures in
     let p = set_off_passed _ _ _ _ passed in
-    let e = c.battery_of-battery.ensures ∙ ap battery_of (battery_back a.question.battery p.battery_ok) in
+    let e = c.battery_of-battery.ensures ∙ battery_back a.question.battery p.battery_ok in
     SetsOff.known passed
     (subst (λ (B : Battery). Numbered a.nodes.now a.roads.now B a.question.depot a.list.now c.fill.new.list) e c.fill.ensures)

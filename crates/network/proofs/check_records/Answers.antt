@@ -1,12 +1,9 @@
-use Rattle.std.proofs.Common.{ℕ, List, arith, rules, sym, ap, ◌∙◌}
+use Rattle.std.proofs.Common.{arith, rules, sym, ap, ◌∙◌}
 use Rattle.refusals.proofs.Faults.{from_go, from_stop, from_end}
-use Rattle.refusals.specs.declared.Checked.{Checked}
 use Rattle.network.specs.Check.{record_fault}
-use Rattle.network.specs.Files.{road_count, road_of}
+use Rattle.network.specs.Files.{road_count}
+use Rattle.network.proofs.check_records.Invariants.{faults}
 use Rattle.network.proofs.check_records.Goals as goal
-
-abbrev faults : List ℕ → List ℕ → ℕ → Checked
-faults ns rs k = record_fault ns k (road_of rs k)
 
 pub loop-k-preserved : goal.loop-k-preserved
 loop-k-preserved c =

@@ -1,10 +1,8 @@
-use Rattle.std.proofs.Common.{◌≡◌, length, sym, ap, ◌∙◌, subst}
-use Rattle.numbers.specs.Signed.{draw}
-use Rattle.battery.specs.Drive.{fresh}
+use Rattle.std.proofs.Common.{◌≡◌, length, sym, ◌∙◌, subst}
 use Rattle.battery.specs.declared.Van.{Van}
 use Rattle.routes.specs.Steps.{DriveAsks, DriveKeeps}
-use Rattle.promises.specs.Order.{battery_of, van_of}
-use Rattle.promises.proofs.Bits.{battery_back, battery_bits, start_back, start_bits}
+use Rattle.promises.specs.Order.{van_of}
+use Rattle.promises.proofs.Bits.{battery_bits, start_bits, van_back}
 use Rattle.promises.proofs.Passed.{drive_passed}
 use Rattle.planner.proofs.Entries.{drive_refused, drive_asks, drive_kept}
 use Rattle.planner.proofs.drive.Goals as goal
@@ -27,9 +25,7 @@ drive_route-requires c =
     let q = a.question in
     let passed = sym c.in_default.ensures in
     let d = drive_passed a.nodes.now a.roads.now q (length a.route.now) passed in
-    let p = ap battery_of (battery_back q.battery d.0.battery_ok) in
-    let s = ap draw (start_back q.battery q.start d.0.battery_ok d.1) in
-    let van : c.van_of-van.result ≡ van_of q = c.van_of-van.ensures ∙ (λ i. fresh (p i) (s i)) in
+    let van : c.van_of-van.result ≡ van_of q = c.van_of-van.ensures ∙ van_back q.battery q.start d.0.battery_ok d.1 in
     subst (DriveAsks a.roads.now a.route.now) (sym van) (drive_asks a.nodes.now a.roads.now q a.route.now passed)
 
 pub returns : goal.returns
@@ -38,8 +34,6 @@ returns c =
     let q = a.question in
     let passed = sym c.in_default.ensures in
     let d = drive_passed a.nodes.now a.roads.now q (length a.route.now) passed in
-    let p = ap battery_of (battery_back q.battery d.0.battery_ok) in
-    let s = ap draw (start_back q.battery q.start d.0.battery_ok d.1) in
-    let van : c.van_of-van.result ≡ van_of q = c.van_of-van.ensures ∙ (λ i. fresh (p i) (s i)) in
+    let van : c.van_of-van.result ≡ van_of q = c.van_of-van.ensures ∙ van_back q.battery q.start d.0.battery_ok d.1 in
     let k = subst (λ (v : Van). DriveKeeps a.roads.now a.route.now q.source v c.drive_route.result) van c.drive_route.ensures in
     drive_kept a.nodes.now a.roads.now q a.route.now passed c.drive_route.result k

@@ -1,7 +1,6 @@
-use Rattle.std.proofs.Common.{length, sym, ap, ◌∙◌, subst}
+use Rattle.std.proofs.Common.{length, sym, ◌∙◌, subst}
 use Rattle.battery.specs.declared.Battery.{Battery}
 use Rattle.routes.specs.Steps.{ProfileAsks, ProfileKeeps}
-use Rattle.promises.specs.Order.{battery_of}
 use Rattle.promises.proofs.Bits.{battery_back, battery_bits}
 use Rattle.promises.proofs.Passed.{profile_passed}
 use Rattle.planner.proofs.Entries.{profile_refused, profile_asks, profile_kept}
@@ -24,7 +23,7 @@ profile_route-requires c =
     let q = a.question in
     let passed = sym c.in_default.ensures in
     let d = profile_passed a.nodes.now a.roads.now q (length a.route.now) passed in
-    let e = c.battery_of-battery.ensures ∙ ap battery_of (battery_back q.battery d.battery_ok) in
+    let e = c.battery_of-battery.ensures ∙ battery_back q.battery d.battery_ok in
     subst (ProfileAsks a.roads.now a.route.now) (sym e) (profile_asks a.nodes.now a.roads.now q a.route.now passed)
 
 pub returns : goal.returns
@@ -33,6 +32,6 @@ returns c =
     let q = a.question in
     let passed = sym c.in_default.ensures in
     let d = profile_passed a.nodes.now a.roads.now q (length a.route.now) passed in
-    let e = c.battery_of-battery.ensures ∙ ap battery_of (battery_back q.battery d.battery_ok) in
+    let e = c.battery_of-battery.ensures ∙ battery_back q.battery d.battery_ok in
     let k = subst (λ (B : Battery). ProfileKeeps a.roads.now a.route.now q.source B c.profile_route.result) e c.profile_route.ensures in
     profile_kept a.nodes.now a.roads.now q a.route.now passed c.profile_route.result k

@@ -1,11 +1,10 @@
 -- The road in hand is one of the file, it is left at a junction, and a junction not yet marked has a place in the list.
-use Rattle.std.proofs.Common.{◌≡◌, ℕ, ◌-◌, ◌<◌, List, arith}
+use Rattle.std.proofs.Common.{◌≡◌, ℕ, ◌-◌, ◌<◌, List, length, arith}
 use Rattle.battery.specs.declared.Road.{Road}
 use Rattle.network.specs.Files.{road_of}
 use Rattle.reading.specs.Reading.{left, net}
 use Rattle.reading.specs.declared.Reading.{Reading}
 use Rattle.reading.proofs.Net.{count_is, head_at}
-use Rattle.search.specs.Sizes.{most_places}
 use Rattle.reasons.specs.Marks.{MarkAsks}
 use Rattle.reasons.proofs.Marking.{is_road, mark_passed, room, mark_new, MarkLoop}
 use Rattle.reasons.proofs.mark.Goals as goal
@@ -14,9 +13,9 @@ use Rattle.reasons.proofs.mark.Goals.{then-labels-v-eq0, else-labels-v-eq0}
 module _ (rd : Reading) (rs : List ℕ) {chains : List ℕ} {u : ℕ} {labels ways : List ℕ} {last : ℕ}
     (a : MarkAsks (net rd rs).roads chains u labels ways last) {next : ℕ} {labels₁ ways₁ : List ℕ} {last₁ : ℕ}
     (i : MarkLoop (net rd rs).roads u next labels ways last labels₁ ways₁ last₁) (some : 0 < next) where
-  placed : (r : Road) {v : ℕ} → r ≡ road_of rs (next - 1) → v ≡ left rd.sense r → v < most_places
+  placed : (r : Road) {v : ℕ} → r ≡ road_of rs (next - 1) → v ≡ left rd.sense r → v < length labels₁
   placed r p q =
-      omega (arith, head_at rd rs (next - 1) r p q, a.tracked.within (next - 1) (is_road _ _ _ _ _ _ a _ _ _ _ i some))
+      omega (arith, head_at rd rs (next - 1) r p q, a.tracked.within (next - 1) (is_road _ _ _ _ _ _ a _ _ _ _ i some), i.long_labels)
 
 pub road_at-requires : goal.road_at-requires
 road_at-requires c =
@@ -28,19 +27,11 @@ road_at-requires c =
 
 pub bounds-labels-v : goal.bounds-labels-v
 bounds-labels-v c =
-    omega (
-      arith,
-      placed c.args.reading _ c.requires c.loop-next.invariant c.loop-next-test.true _ c.road_at.ensures c.left-v.ensures,
-      c.loop-next.invariant.long_labels,
-    )
+    placed c.args.reading _ c.requires c.loop-next.invariant c.loop-next-test.true _ c.road_at.ensures c.left-v.ensures
 
 pub bounds-labels-v-then-labels-v-eq0 : goal.bounds-labels-v-then-labels-v-eq0
 bounds-labels-v-then-labels-v-eq0 c =
-    omega (
-      arith,
-      placed c.args.reading _ c.requires c.loop-next.invariant c.loop-next-test.true _ c.road_at.ensures c.left-v.ensures,
-      c.loop-next.invariant.long_labels,
-    )
+    placed c.args.reading _ c.requires c.loop-next.invariant c.loop-next-test.true _ c.road_at.ensures c.left-v.ensures
 
 pub bounds-ways-end : goal.bounds-ways-end
 bounds-ways-end c =

@@ -14,8 +14,7 @@ returns-then-slack-gt0 c = more_charge _ _ _ _ _ c.if-slack-gt0.true c.seek_agai
 pub leads-requires : goal.leads-requires
 leads-requires c =
     let k = c.seek_again-slack.auto in
-    lead_asks _ _ _ _ _ _ _ _ c.requires _ (omega (arith, c.requires.target_in, c.requires.source_in))
-    (omega (arith, c.requires.target_in, c.requires.source_in)) _ _ _ k.chains k.labels k.ways
+    lead_asks _ _ _ _ _ _ _ _ c.requires _ (omega arith) (omega arith) _ _ _ k.chains k.labels k.ways
 
 pub returns-then-leads : goal.returns-then-leads
 returns-then-leads c =
