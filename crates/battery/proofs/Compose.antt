@@ -1,4 +1,5 @@
 -- The profile of two routes driven one after the other is the one profile followed by the other. Assumes nothing.
+use Rattle.std.specs.Prelude.{None, Option, Some, cond}
 use mathlib.Core.Path.{◌≡◌, refl, sym, ap, ◌∙◌}
 use mathlib.Core.Bool.{Bool, true, false}
 use mathlib.Core.List.{List, [], ◌∷◌, ◌++◌}
@@ -11,13 +12,11 @@ use Rattle.numbers.specs.Signed.{draw, gain}
 use Rattle.numbers.proofs.Diff.{diff_self, diff_pos, diff_add, draw_of, leb_same}
 use Rattle.battery.specs.Claims.{Composition}
 use Rattle.battery.specs.Rule.{left}
-use Rattle.battery.specs.Profile.{no_roads, one_road, joined, followed_by, profile_of, pick_passage}
+use Rattle.battery.specs.Profile.{no_roads, one_road, joined, followed_by, profile_of}
 use Rattle.battery.specs.Ready.{Kept}
 use Rattle.battery.specs.declared.Battery.{Battery}
 use Rattle.battery.specs.declared.Road.{Road}
 use Rattle.battery.specs.declared.Profile.{Profile}
-use Rattle.battery.specs.declared.Passage.{Passage}
-use Rattle.battery.specs.declared.Passage.TheVariants.{Passable, Impassable}
 use Rattle.battery.proofs.Rule.{left_is}
 use Rattle.battery.proofs.Join.{Keeps, reach_is, left_min, left_twice, road_keeps, profile_keeps}
 
@@ -56,16 +55,16 @@ module _ (p q r : Profile) (Q : draw q.sum ≤ q.need + gain q.sum) (pq : q.need
   joined_assoc : joined (joined p q) r ≡ joined p (joined q r)
   joined_assoc = λ i. record { need = need_assoc i; sum = +ℤ_assoc p.sum q.sum r.sum i; top = top_assoc i }
 
-followed_none : (x : Passage) → followed_by x Impassable ≡ Impassable
+followed_none : (x : Option Profile) → followed_by x None ≡ None
 unfolding followed_by
-followed_none (Passable p) = refl
-followed_none Impassable = refl
+followed_none (Some p) = refl
+followed_none None = refl
 
 -- by the two tests: P before Q, and Q before R
 by_tests : (p q r : Profile) → draw q.sum ≤ q.need + gain q.sum → (t u : Bool)
     → leb q.need p.top ≡ t → leb r.need q.top ≡ u
-    → followed_by (pick_passage t (Passable (joined p q)) Impassable) (Passable r)
-    ≡ followed_by (Passable p) (pick_passage u (Passable (joined q r)) Impassable)
+    → followed_by (cond t (Some (joined p q)) None) (Some r)
+    ≡ followed_by (Some p) (cond u (Some (joined q r)) None)
 unfolding followed_by
 by_tests p q r Q true true e f =
     let h = leb-true q.need p.top e in
@@ -74,7 +73,7 @@ by_tests p q r Q true true e f =
     let l = left_is p.top q.sum in
     let s = leb_same r.need (joined p q).top (joined q r).need p.top (λ a. omega arith) (λ a. omega arith) in
     let j = joined_assoc p q r Q h in
-    λ i. pick_passage (s i) (Passable (j i)) Impassable
+    λ i. cond (s i) (Some (j i)) None
 by_tests p q r Q true false e f =
     let k = leb-false r.need q.top f in
     simp (lt-leb r.need (joined p q).top (omega arith))
@@ -83,14 +82,14 @@ by_tests p q r Q false true e f =
     simp (lt-leb (joined q r).need p.top (omega arith))
 by_tests p q r Q false false e f = refl
 
-pub followed_assoc : (B : Battery) (x y z : Passage) → Keeps B y
+pub followed_assoc : (B : Battery) (x y z : Option Profile) → Keeps B y
     → followed_by (followed_by x y) z ≡ followed_by x (followed_by y z)
 unfolding followed_by
-followed_assoc B (Passable p) (Passable q) (Passable r) Q =
+followed_assoc B (Some p) (Some q) (Some r) Q =
     by_tests p q r Q.sum_need (leb q.need p.top) (leb r.need q.top) refl refl
-followed_assoc B (Passable p) (Passable q) Impassable Q = followed_none (followed_by (Passable p) (Passable q))
-followed_assoc B (Passable p) Impassable z Q = refl
-followed_assoc B Impassable y z Q = refl
+followed_assoc B (Some p) (Some q) None Q = followed_none (followed_by (Some p) (Some q))
+followed_assoc B (Some p) None z Q = refl
+followed_assoc B None y z Q = refl
 
 -- ---- no roads before a route
 
@@ -102,10 +101,10 @@ joined_none {B} {q} Q =
     let b : (joined (no_roads B) q).top ≡ q.top = omega arith in
     λ i. record { need = a i; sum = +ℤ_idl q.sum i; top = b i }
 
-followed_first : (B : Battery) (y : Passage) → Keeps B y → followed_by (Passable (no_roads B)) y ≡ y
+followed_first : (B : Battery) (y : Option Profile) → Keeps B y → followed_by (Some (no_roads B)) y ≡ y
 unfolding followed_by
-followed_first B (Passable q) Q = simp (le-leb q.need B.size Q.need_le) (ap Passable (joined_none Q))
-followed_first B Impassable Q = refl
+followed_first B (Some q) Q = simp (le-leb q.need B.size Q.need_le) (ap Some (joined_none Q))
+followed_first B None Q = refl
 
 -- ---- two routes
 
@@ -118,15 +117,15 @@ compose B (r ∷ ps) qs =
 
 -- ---- one road more
 
-followed_last : (B : Battery) (x : Passage) → Keeps B x → followed_by x (Passable (no_roads B)) ≡ x
+followed_last : (B : Battery) (x : Option Profile) → Keeps B x → followed_by x (Some (no_roads B)) ≡ x
 unfolding followed_by
-followed_last B (Passable p) P =
+followed_last B (Some p) P =
     let n = reach_is 0 p.sum in
     let l = left_is p.top (pos 0) in
     let a : (joined p (no_roads B)).need ≡ p.need = omega arith in
     let b : (joined p (no_roads B)).top ≡ p.top = omega arith in
-    simp (le-leb 0 p.top (omega arith)) (λ i. Passable (record { need = a i; sum = +ℤ_idr p.sum i; top = b i }))
-followed_last B Impassable P = refl
+    simp (le-leb 0 p.top (omega arith)) (λ i. Some (record { need = a i; sum = +ℤ_idr p.sum i; top = b i }))
+followed_last B None P = refl
 
 pub compose_one : (B : Battery) (rs : List Road) (r : Road)
     → profile_of B (rs ++ (r ∷ [])) ≡ followed_by (profile_of B rs) (one_road B r)

@@ -1,4 +1,5 @@
 -- Laws of one route followed by another, in naturals, and what every profile of a route keeps. Assumes nothing.
+use Rattle.std.specs.Prelude.{None, Option, Some, cond}
 use mathlib.Core.Path.{◌≡◌, refl, sym, subst}
 use mathlib.Core.Bool.{Bool, true, false}
 use mathlib.Core.List.{List, [], ◌∷◌}
@@ -10,19 +11,17 @@ use lib.IntN.{ℤ, pos, ◌+ℤ◌}
 use Rattle.numbers.specs.Signed.{draw, gain}
 use Rattle.numbers.proofs.Diff.{diff_self, diff_pos, diff_add, diff_minus, draw_of, draw_add, gain_add}
 use Rattle.battery.specs.Rule.{drivable, needs, left}
-use Rattle.battery.specs.Profile.{no_roads, road_profile, one_road, joined, followed_by, profile_of, pick_passage}
+use Rattle.battery.specs.Profile.{no_roads, road_profile, one_road, joined, followed_by, profile_of}
 use Rattle.battery.specs.Ready.{Kept}
 use Rattle.battery.specs.declared.Battery.{Battery}
 use Rattle.battery.specs.declared.Road.{Road}
 use Rattle.battery.specs.declared.Profile.{Profile}
-use Rattle.battery.specs.declared.Passage.{Passage}
-use Rattle.battery.specs.declared.Passage.TheVariants.{Passable, Impassable}
 use Rattle.battery.proofs.Rule.{left_is, drivable_is}
 
 -- a route that has a profile keeps Kept
-abbrev pub Keeps : Battery → Passage → Type 0
-Keeps B (Passable p) = Kept B p
-Keeps B Impassable = Unit {0}
+abbrev pub Keeps : Battery → Option Profile → Type 0
+Keeps B (Some p) = Kept B p
+Keeps B None = Unit {0}
 
 -- ---- sums and what is left, as naturals
 
@@ -57,7 +56,7 @@ unfolding one_road
 road_keeps B r = go (drivable B B.size r) (sym (drivable_is B B.size r))
   where
     go : (t : Bool) → leb (needs B r) B.size ≡ t
-        → Keeps B (pick_passage t (Passable (road_profile B r)) Impassable)
+        → Keeps B (cond t (Some (road_profile B r)) None)
     go true e = passed_kept B r (leb-true _ _ e)
     go false e = tt
 
@@ -78,20 +77,20 @@ joined_kept {p} {q} P Q h =
     let t = left_is p.top q.sum in
     omega arith
 
-followed_keeps : (B : Battery) (x y : Passage) → Keeps B x → Keeps B y → Keeps B (followed_by x y)
+followed_keeps : (B : Battery) (x y : Option Profile) → Keeps B x → Keeps B y → Keeps B (followed_by x y)
 unfolding followed_by
-followed_keeps B (Passable p) (Passable q) P Q = go (leb q.need p.top) refl
+followed_keeps B (Some p) (Some q) P Q = go (leb q.need p.top) refl
   where
-    go : (t : Bool) → leb q.need p.top ≡ t → Keeps B (pick_passage t (Passable (joined p q)) Impassable)
+    go : (t : Bool) → leb q.need p.top ≡ t → Keeps B (cond t (Some (joined p q)) None)
     go true e = joined_kept P Q (leb-true _ _ e)
     go false e = tt
-followed_keeps B (Passable p) Impassable P Q = tt
-followed_keeps B Impassable y P Q = tt
+followed_keeps B (Some p) None P Q = tt
+followed_keeps B None y P Q = tt
 
 pub profile_keeps : (B : Battery) (rs : List Road) → Keeps B (profile_of B rs)
 unfolding profile_of
 profile_keeps B [] = none_kept B
 profile_keeps B (r ∷ rs) = followed_keeps B (one_road B r) (profile_of B rs) (road_keeps B r) (profile_keeps B rs)
 
-pub profile_kept : (B : Battery) (rs : List Road) {p : Profile} → profile_of B rs ≡ Passable p → Kept B p
+pub profile_kept : (B : Battery) (rs : List Road) {p : Profile} → profile_of B rs ≡ Some p → Kept B p
 profile_kept B rs e = subst (Keeps B) e (profile_keeps B rs)

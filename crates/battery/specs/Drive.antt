@@ -1,12 +1,10 @@
 -- A drive goes one road at a time: the van's state and a road give the next state.
-use Rattle.std.specs.Prelude.{Bool, true, false, List, [], ◌∷◌, ℕ, ◌+◌}
+use Rattle.std.specs.Prelude.{List, [], ◌∷◌, ℕ, ◌+◌, None, Option, Some, cond, option_and_then}
 use Rattle.numbers.specs.Signed.{draw, gain}
 use Rattle.battery.specs.Rule.{drivable, charge_after, excess}
 use Rattle.battery.specs.declared.Battery.{Battery}
 use Rattle.battery.specs.declared.Road.{Road}
 use Rattle.battery.specs.declared.Van.{Van}
-use Rattle.battery.specs.declared.Drove.{Drove}
-use Rattle.battery.specs.declared.Drove.TheVariants.{On, TooLow}
 
 -- a van that sets out with the battery B and the charge b
 abbrev pub fresh : Battery → ℕ → Van
@@ -24,19 +22,11 @@ driven v r =
       spilled = v.spilled + excess v.battery v.charge r;
     }
 
-abbrev pub pick_drove : Bool → Drove → Drove → Drove
-pick_drove true a b = a
-pick_drove false a b = b
+-- one road; none where the charge is too low
+unfoldable pub drive : Van → Road → Option Van
+drive v r = cond (drivable v.battery v.charge r) (Some (driven v r)) None
 
--- one road
-unfoldable pub drive : Van → Road → Drove
-drive v r = pick_drove (drivable v.battery v.charge r) (On (driven v r)) TooLow
-
-abbrev pub and_then : Drove → (Van → Drove) → Drove
-and_then (On v) k = k v
-and_then TooLow k = TooLow
-
--- the roads in turn; a walk is feasible where this is not TooLow
-unfoldable pub drive_all : Van → List Road → Drove
-drive_all v [] = On v
-drive_all v (r ∷ rs) = and_then (drive v r) (λ w. drive_all w rs)
+-- the roads in turn; none where the charge is too low for one; a walk is feasible where this is some van
+unfoldable pub drive_all : Van → List Road → Option Van
+drive_all v [] = Some v
+drive_all v (r ∷ rs) = option_and_then (λ w. drive_all w rs) (drive v r)

@@ -1,16 +1,10 @@
 -- The profile of one route: three numbers that give the arrival at any start.
-use Rattle.std.specs.Prelude.{Bool, true, false, List, [], ◌∷◌, min, max, leb, pos, ◌+ℤ◌}
+use Rattle.std.specs.Prelude.{List, [], ◌∷◌, min, max, leb, pos, ◌+ℤ◌, None, Option, Some, cond}
 use Rattle.numbers.specs.Signed.{draw}
 use Rattle.battery.specs.Rule.{drivable, needs, left}
 use Rattle.battery.specs.declared.Battery.{Battery}
 use Rattle.battery.specs.declared.Road.{Road}
 use Rattle.battery.specs.declared.Profile.{Profile}
-use Rattle.battery.specs.declared.Passage.{Passage}
-use Rattle.battery.specs.declared.Passage.TheVariants.{Passable, Impassable}
-
-abbrev pub pick_passage : Bool → Passage → Passage → Passage
-pick_passage true a b = a
-pick_passage false a b = b
 
 -- no roads: need 0, sum 0, top M
 abbrev pub no_roads : Battery → Profile
@@ -26,8 +20,8 @@ road_profile B r =
     }
 
 -- a road with c > M is impassable
-unfoldable pub one_road : Battery → Road → Passage
-one_road B r = pick_passage (drivable B B.size r) (Passable (road_profile B r)) Impassable
+unfoldable pub one_road : Battery → Road → Option Profile
+one_road B r = cond (drivable B B.size r) (Some (road_profile B r)) None
 
 -- P followed by Q: need is the larger of need of P and need of Q + sum of P; sum is added; top is the smaller of top of Q
 -- and top of P − sum of Q
@@ -40,12 +34,12 @@ joined p q =
     }
 
 -- impassable where top of P < need of Q, and where P or Q is
-unfoldable pub followed_by : Passage → Passage → Passage
-followed_by (Passable p) (Passable q) = pick_passage (leb q.need p.top) (Passable (joined p q)) Impassable
-followed_by (Passable p) Impassable = Impassable
-followed_by Impassable q = Impassable
+unfoldable pub followed_by : Option Profile → Option Profile → Option Profile
+followed_by (Some p) (Some q) = cond (leb q.need p.top) (Some (joined p q)) None
+followed_by (Some p) None = None
+followed_by None q = None
 
 -- a route: its first road followed by the rest
-unfoldable pub profile_of : Battery → List Road → Passage
-profile_of B [] = Passable (no_roads B)
+unfoldable pub profile_of : Battery → List Road → Option Profile
+profile_of B [] = Some (no_roads B)
 profile_of B (r ∷ rs) = followed_by (one_road B r) (profile_of B rs)

@@ -5,7 +5,6 @@ ghost use Rattle.std.specs.Prelude.{◌≡◌, ◌-◌, ◌≤◌, max};
 ghost use Rattle.numbers.specs.Signed.{draw};
 ghost use Rattle.battery.specs.Drive.{fresh, drive};
 ghost use Rattle.battery.specs.Profile.{no_roads, followed_by, one_road};
-ghost use Rattle.battery.specs.declared.Passage.TheVariants.{Passable};
 ghost use Rattle.battery.specs.Ready.{Ready, Extends};
 ghost use Rattle.battery.specs.Rule.{most_battery};
 
@@ -40,27 +39,13 @@ pub struct Van {
     pub spilled: u64,
 }
 
-// What comes of driving a road: the next van, or a charge that is too low.
-#[derive(Clone, Copy)]
-pub enum Drove {
-    On(Van),
-    TooLow,
-}
-
 // Of one route, for all start charges: below need it cannot be driven; from need on the arrival is
-// the smaller of top and start - sum.
+// the smaller of top and start - sum. A route that no charge can drive has none.
 #[derive(Clone, Copy)]
 pub struct Profile {
     pub need: u32,
     pub sum: i64,
     pub top: u32,
-}
-
-// A route that no charge can drive has no profile.
-#[derive(Clone, Copy)]
-pub enum Passage {
-    Passable(Profile),
-    Impassable,
 }
 
 impl Van {
@@ -77,20 +62,20 @@ impl Van {
         }
     }
 
-    // The van at the head of a road, from the van at its tail.
-    pub fn drive(self, road: Road) -> Drove
+    // The van at the head of a road, from the van at its tail; none where the charge is too low.
+    pub fn drive(self, road: Road) -> Option<Van>
         requires { Ready self road }
         ensures { result ≡ drive self road }
     {
         let takes = numbers::drawn(road.consumption);
         let gives = numbers::gained(road.consumption);
         if self.charge < takes {
-            return Drove::TooLow;
+            return None;
         }
         let battery = self.battery;
         let left = self.charge - takes + gives;
-        let over = above(left, battery.size);
-        Drove::On(Van {
+        let over = left.saturating_sub(battery.size);
+        Some(Van {
             battery,
             charge: left - over,
             drawn: self.drawn + takes as u64,
@@ -112,42 +97,23 @@ impl Profile {
         }
     }
 
-    // This route with one road more.
-    pub fn then(self, battery: Battery, road: Road) -> Passage
+    // This route with one road more; none where no charge can drive it.
+    pub fn then(self, battery: Battery, road: Road) -> Option<Profile>
         requires { Extends battery self road }
-        ensures { result ≡ followed_by (Passable self) (one_road battery road) }
+        ensures { result ≡ followed_by (Some self) (one_road battery road) }
     {
         let takes = numbers::drawn(road.consumption);
         let gives = numbers::gained(road.consumption);
         if self.top < takes {
-            return Passage::Impassable;
+            return None;
         }
         let left = self.top - takes + gives;
         // the least start that leaves what the road takes
-        let reach = self.sum + takes as i64;
-        Passage::Passable(Profile {
-            need: larger(self.need, reach),
+        let reach = (self.sum + takes as i64).max(0) as u32;
+        Some(Profile {
+            need: self.need.max(reach),
             sum: self.sum + road.consumption as i64,
-            top: left - above(left, battery.size),
+            top: left.min(battery.size),
         })
     }
-}
-
-// The larger of need and reach, which may be negative.
-fn larger(need: u32, reach: i64) -> u32
-    requires { draw reach ≤ most_battery }
-    ensures { result ≡ max need (draw reach) }
-{
-    if (need as i64) < reach {
-        reach as u32
-    } else {
-        need
-    }
-}
-
-// How far x stands above m.
-fn above(x: u32, m: u32) -> u32
-    ensures { result ≡ x - m }
-{
-    if m < x { x - m } else { 0 }
 }

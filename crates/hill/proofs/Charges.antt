@@ -1,5 +1,6 @@
 -- The charges to set off with on network H. A walk's profile tells its need; a junction's number is the least of its walks'
 -- needs. Assumes nothing.
+use Rattle.std.specs.Prelude.{None, Option, Some}
 use mathlib.Core.Path.{◌≡◌, refl}
 use mathlib.Core.List.{List, [], ◌∷◌}
 use Prim.Native.Nat.{ℕ, ◌≤◌, ◌<◌}
@@ -10,10 +11,7 @@ use Rattle.battery.proofs.Agree.{agreement, impassable_exactly}
 use Rattle.battery.specs.Drive.{fresh, driven, drive, drive_all}
 use Rattle.battery.specs.Profile.{one_road, followed_by, profile_of}
 use Rattle.battery.specs.declared.Battery.{Battery}
-use Rattle.battery.specs.declared.Passage.{Passage}
-use Rattle.battery.specs.declared.Passage.TheVariants.{Passable, Impassable}
 use Rattle.battery.specs.declared.Van.{Van}
-use Rattle.battery.specs.declared.Drove.TheVariants.{On, TooLow}
 use Rattle.journeys.proofs.SetOff.{depot_number}
 use Rattle.journeys.specs.SetOff.{SetOff, least, never}
 use Rattle.journeys.specs.Walks.{Walk, roads_of, Feasible}
@@ -23,31 +21,31 @@ use Rattle.hill.specs.Hill.{roads, sized}
 use Rattle.hill.proofs.Walks.{Way, way, by_1, by_3, by_1_3, no_way, to_3, to_2, hill_3, flat_2}
 
 -- a walk with this profile needs b or more, or cannot be driven at all
-abbrev Needs : ℕ → Passage → Type 0
-Needs b (Passable p) = b ≤ p.need
-Needs b Impassable = Unit {0}
+abbrev Needs : ℕ → Option Profile → Type 0
+Needs b (Some p) = b ≤ p.need
+Needs b None = Unit {0}
 
-low_not : {X : Type 0} {m : Battery} {c : ℕ} {ks : List ℕ} → drive_all (fresh m c) (roads_of roads ks) ≡ TooLow → Feasible m c roads ks → X
+low_not : {X : Type 0} {m : Battery} {c : ℕ} {ks : List ℕ} → drive_all (fresh m c) (roads_of roads ks) ≡ None → Feasible m c roads ks → X
 low_not t f = let z : ◌≡◌ {A = ℕ} 0 1 = cc (t, f.drives) in absurd (omega arith)
 
-needs_of : (m : Battery) (b c : ℕ) (ks : List ℕ) (x : Passage) → profile_of m (roads_of roads ks) ≡ x → Needs b x → c ≤ m.size
+needs_of : (m : Battery) (b c : ℕ) (ks : List ℕ) (x : Option Profile) → profile_of m (roads_of roads ks) ≡ x → Needs b x → c ≤ m.size
     → Feasible m c roads ks → b ≤ c
-needs_of m b c ks (Passable p) e n h f = go (dec_lt c p.need)
+needs_of m b c ks (Some p) e n h f = go (dec_lt c p.need)
   where
     go : Dec (c < p.need) → b ≤ c
     go (yes l) = low_not ((agreement m c (roads_of roads ks) p e h).below l) f
     go (no l) = omega arith
-needs_of m b c ks Impassable e n h f = low_not ((impassable_exactly m (roads_of roads ks)).never e c h) f
+needs_of m b c ks None e n h f = low_not ((impassable_exactly m (roads_of roads ks)).never e c h) f
 
 -- every walk from v to d needs b or more, and the walk by `best` can be driven with b
-least_of : {m : Battery} {v d b : ℕ} {w : Van} (best : List ℕ) → Walk roads v best d → drive_all (fresh m b) (roads_of roads best) ≡ On w
+least_of : {m : Battery} {v d b : ℕ} {w : Van} (best : List ℕ) → Walk roads v best d → drive_all (fresh m b) (roads_of roads best) ≡ Some w
     → b ≤ m.size → ((ks : List ℕ) → Way v ks d → Needs b (profile_of m (roads_of roads ks))) → SetOff m roads v d (pos b)
 least_of {m} {b} {w} best walk e h n =
     least b (record { to_full = h; by = best; walk = walk; feasible = record { van = w; drives = e } })
     (λ c f. needs_of m b c f.by _ refl (n f.by (way f.walk)) f.to_full f.feasible)
 
 -- no walk from v to d can be driven with any charge
-never_of : {m : Battery} {v d : ℕ} → ((ks : List ℕ) → Way v ks d → profile_of m (roads_of roads ks) ≡ Impassable) → SetOff m roads v d (negsuc 0)
+never_of : {m : Battery} {v d : ℕ} → ((ks : List ℕ) → Way v ks d → profile_of m (roads_of roads ks) ≡ None) → SetOff m roads v d (negsuc 0)
 never_of {m} n =
     never (λ c f. low_not ((impassable_exactly m (roads_of roads f.by)).never (n f.by (way f.walk)) c f.to_full) f.feasible)
 

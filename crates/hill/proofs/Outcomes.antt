@@ -1,5 +1,6 @@
 -- What decides the outcome of best route on network H: one law for every row with a route, one for every row without.
 -- Assumes nothing.
+use Rattle.std.specs.Prelude.{Err, None, Ok, Option, Some}
 use mathlib.Core.Path.{◌≡◌, refl, sym, ap}
 use mathlib.Core.Bool.{Bool, true, ◌&&◌}
 use mathlib.Core.List.{List, ◌++◌}
@@ -10,8 +11,6 @@ use borrow.Author.Tests.{le-leb}
 use lib.ListN.{length, drop}
 use Rattle.battery.specs.Drive.{drive_all}
 use Rattle.battery.specs.declared.Van.{Van}
-use Rattle.battery.specs.declared.Drove.{Drove}
-use Rattle.battery.specs.declared.Drove.TheVariants.{On, TooLow}
 use Rattle.refusals.proofs.Faults.{both_true, not_both}
 use Rattle.refusals.proofs.Early.{number_pos}
 use Rattle.refusals.specs.Order.{first_from}
@@ -19,13 +18,11 @@ use Rattle.network.specs.Check.{road_fault, potential_fault, records_fault}
 use Rattle.network.specs.Files.{is_junction}
 use Rattle.journeys.specs.Reasons.{Reason}
 use Rattle.journeys.specs.Walks.{roads_of}
-use Rattle.refusals.specs.declared.Checked.TheVariants.{Passed}
 use Rattle.refusals.specs.declared.Refusal.{Refusal}
 use Rattle.promises.proofs.OnePlan.{one_plan}
 use Rattle.promises.specs.Given.{plan_numbers}
 use Rattle.promises.specs.Order.{is_battery, is_start, battery_of, plan_van, plan_fault}
 use Rattle.promises.specs.Promises.{Arrives, Most, NoWalk, Plans}
-use Rattle.promises.specs.declared.Planned.TheVariants as planned
 use Rattle.promises.specs.declared.PlanNumbers.{PlanNumbers}
 use Rattle.promises.specs.declared.PlanQuestion.{PlanQuestion}
 use Rattle.hill.specs.Hill.{nodes, roads}
@@ -40,11 +37,11 @@ clear q =
     is_battery q.battery
     && (is_start q.battery q.start && (is_junction nodes q.source && is_junction nodes q.target))
 
-records_pass : records_fault nodes roads ≡ Passed
+records_pass : records_fault nodes roads ≡ Ok tt
 unfolding first_from road_fault potential_fault
 records_pass = refl
 
-plan_passes : (q : PlanQuestion) (list : List ℕ) → clear q ≡ true → 3 ≤ length list → plan_fault nodes roads q (length list) ≡ Passed
+plan_passes : (q : PlanQuestion) (list : List ℕ) → clear q ≡ true → 3 ≤ length list → plan_fault nodes roads q (length list) ≡ Ok tt
 unfolding plan_fault
 plan_passes q list c h =
     let a = both_true (is_battery q.battery) _ c in
@@ -55,16 +52,16 @@ plan_passes q list c h =
 -- ---- a row with a route
 
 -- a drive that does not arrive with a or more
-abbrev pub Short : ℕ → Drove → Type 0
-Short a (On v) = v.charge < a
-Short a TooLow = Unit {0}
+abbrev pub Short : ℕ → Option Van → Type 0
+Short a (Some v) = v.charge < a
+Short a None = Unit {0}
 
-short_of : {a : ℕ} {v : Van} (d : Drove) → Short a d → d ≡ On v → v.charge < a
-short_of {a} {v} (On u) s e =
+short_of : {a : ℕ} {v : Van} (d : Option Van) → Short a d → d ≡ Some v → v.charge < a
+short_of {a} {v} (Some u) s e =
     let w : u ≡ v = cc in
     let c = ap (λ (x : Van). x.charge) w in
     omega arith
-short_of TooLow s e = let z : ◌≡◌ {A = ℕ} 0 1 = cc in absurd (omega arith)
+short_of None s e = let z : ◌≡◌ {A = ℕ} 0 1 = cc in absurd (omega arith)
 
 -- the walk by ks is that by `best`, or arrives with less than a, or not at all
 abbrev pub Else : PlanQuestion → List ℕ → ℕ → List ℕ → Type 0
@@ -88,18 +85,18 @@ module _ {q : PlanQuestion} {best : List ℕ} {v : Van} (b : BestBy q best v) wh
           omega arith
 
   pub best_only : (list : List ℕ) → 3 ≤ length list
-      → Only q list (plan_numbers (planned.Route (length best) v)) (best ++ drop (length best) list)
+      → Only q list (plan_numbers (Ok ROUTE (length best) v)) (best ++ drop (length best) list)
   best_only list h = record { allowed = given; only = only }
     where
-      given : Plans nodes roads q list (plan_numbers (planned.Route (length best) v)) (best ++ drop (length best) list)
+      given : Plans nodes roads q list (plan_numbers (Ok ROUTE (length best) v)) (best ++ drop (length best) list)
       given = Plans.route best v (plan_passes q list b.cleared h) b.arrives (once b.arrives.walk) most
 
       same : {n : PlanNumbers} {xs : List ℕ} → Plans nodes roads q list n xs → xs ≡ best ++ drop (length best) list
-          → (n ≡ plan_numbers (planned.Route (length best) v)) × (xs ≡ best ++ drop (length best) list)
+          → (n ≡ plan_numbers (Ok ROUTE (length best) v)) × (xs ≡ best ++ drop (length best) list)
       same {n} {xs} p e = ((one_plan nodes roads q list n _ xs _ p given).chosen e, e)
 
       only : (n : PlanNumbers) (xs : List ℕ) → Plans nodes roads q list n xs
-          → (n ≡ plan_numbers (planned.Route (length best) v)) × (xs ≡ best ++ drop (length best) list)
+          → (n ≡ plan_numbers (Ok ROUTE (length best) v)) × (xs ≡ best ++ drop (length best) list)
       only n xs (Plans.refused r e) = not_both (plan_passes q list b.cleared h) e
       only n xs (Plans.none r e no_walk why) = absurd (no_walk best v b.arrives)
       only n xs (Plans.route ks u e g o m) =
@@ -109,7 +106,7 @@ module _ {q : PlanQuestion} {best : List ℕ} {v : Van} (b : BestBy q best v) wh
   pub best_row : {a : ℕ} → v.charge ≡ a → (list : List ℕ) → 3 ≤ length list → BestRow q a best list
   best_row e list h =
       record {
-        numbers = plan_numbers (planned.Route (length best) v);
+        numbers = plan_numbers (Ok ROUTE (length best) v);
         success = refl;
         arrival_is = e;
         roads_is = refl;
@@ -123,19 +120,19 @@ module _ {q : PlanQuestion} {best : List ℕ} {v : Van} (b : BestBy q best v) wh
 -- ---- a row without a route
 
 pub none_only : (q : PlanQuestion) → clear q ≡ true
-    → ((ks : List ℕ) → Way q.source ks q.target → drive_all (plan_van q) (roads_of roads ks) ≡ TooLow)
+    → ((ks : List ℕ) → Way q.source ks q.target → drive_all (plan_van q) (roads_of roads ks) ≡ None)
     → (r : Refusal) → Reason (battery_of q.battery) roads q.source q.target r
-    → (list : List ℕ) → 3 ≤ length list → Only q list (plan_numbers (planned.Refused r)) list
+    → (list : List ℕ) → 3 ≤ length list → Only q list (plan_numbers (Err r)) list
 none_only q c low r why list h = record { allowed = given; only = only }
   where
     no_walk : NoWalk roads q
     no_walk ks v g = let z : ◌≡◌ {A = ℕ} 0 1 = cc (low ks (way g.walk), g.drives) in absurd (omega arith)
 
-    given : Plans nodes roads q list (plan_numbers (planned.Refused r)) list
+    given : Plans nodes roads q list (plan_numbers (Err r)) list
     given = Plans.none r (plan_passes q list c h) no_walk why
 
     only : (n : PlanNumbers) (xs : List ℕ) → Plans nodes roads q list n xs
-        → (n ≡ plan_numbers (planned.Refused r)) × (xs ≡ list)
+        → (n ≡ plan_numbers (Err r)) × (xs ≡ list)
     only n xs p =
         let a = (one_plan nodes roads q list _ n list xs given p).refusal (λ e. omega (arith, number_pos r)) in
         (sym a.0, sym a.1)

@@ -1,6 +1,7 @@
 -- The rows of the table, and the one unit that brings 301. Each row names its walks, and a row without a route its reason; the
 -- checker works out the rule.
 -- Assumes nothing.
+use Rattle.std.specs.Prelude.{None, Ok, Some}
 use mathlib.Core.Path.{◌≡◌, refl, subst}
 use mathlib.Core.Bool.{true}
 use mathlib.Core.List.{List, []}
@@ -11,19 +12,15 @@ use lib.IntN.{ℤ, pos}
 use Rattle.battery.specs.Drive.{driven, drive, drive_all}
 use Rattle.battery.specs.Profile.{one_road, followed_by, profile_of}
 use Rattle.battery.specs.declared.Profile.{Profile}
-use Rattle.battery.specs.declared.Passage.TheVariants.{Passable}
 use Rattle.battery.specs.declared.Van.{Van}
-use Rattle.battery.specs.declared.Drove.TheVariants.{On, TooLow}
 use Rattle.refusals.specs.Order.{first_from}
 use Rattle.network.specs.Check.{road_fault, potential_fault}
 use Rattle.journeys.specs.Reasons.{Reason, more_charge, never_enough, not_joined}
 use Rattle.refusals.specs.Refusals.{number_of, place_of}
 use Rattle.journeys.specs.Walks.{Walk, roads_of}
-use Rattle.refusals.specs.declared.Checked.TheVariants.{Passed}
 use Rattle.refusals.specs.declared.Refusal.{Refusal}
 use Rattle.refusals.specs.declared.Refusal.TheVariants.{NotJoined}
 use Rattle.routes.specs.Places.{place_fault}
-use Rattle.routes.specs.declared.Driven.TheVariants as route
 use Rattle.walks.specs.Walk.{stay}
 use Rattle.promises.specs.Given.{drive_numbers}
 use Rattle.promises.specs.Order.{van_of, plan_van, drive_fault, profile_fault}
@@ -40,7 +37,7 @@ use Rattle.hill.proofs.Walks.{Way, way, stays, no_way, Two, to_3, to_2, to_2_fla
 module _ {m b s t : ℕ} {one other : List ℕ} (two : Two s t one other) where
   -- the better of two walks
   pub better : {v : Van} → Walk roads s one t → clear (asks m b s t) ≡ true
-      → drive_all (plan_van (asks m b s t)) (roads_of roads one) ≡ On v
+      → drive_all (plan_van (asks m b s t)) (roads_of roads one) ≡ Some v
       → Short v.charge (drive_all (plan_van (asks m b s t)) (roads_of roads other)) → BestBy (asks m b s t) one v
   better {v} w c d h =
       record {
@@ -50,11 +47,11 @@ module _ {m b s t : ℕ} {one other : List ℕ} (two : Two s t one other) where
       }
 
   neither : {r : Refusal} → Reason (sized m) roads s t r → clear (asks m b s t) ≡ true
-      → drive_all (plan_van (asks m b s t)) (roads_of roads one) ≡ TooLow
-      → drive_all (plan_van (asks m b s t)) (roads_of roads other) ≡ TooLow
+      → drive_all (plan_van (asks m b s t)) (roads_of roads one) ≡ None
+      → drive_all (plan_van (asks m b s t)) (roads_of roads other) ≡ None
       → Says (Row.no_route m b s t (number_of r) (place_of r))
   neither why c d e =
-      none_only (asks m b s t) c (two (λ ks. drive_all (plan_van (asks m b s t)) (roads_of roads ks) ≡ TooLow) d e) _ why
+      none_only (asks m b s t) c (two (λ ks. drive_all (plan_van (asks m b s t)) (roads_of roads ks) ≡ None) d e) _ why
 
 -- no road leads back
 back : {m b s t : ℕ} → t < s → clear (asks m b s t) ≡ true → Says (Row.no_route m b s t 17 0)
@@ -67,11 +64,11 @@ only_stays ks stays = inl refl
 
 -- ---- the other rows
 
-drive_row : {q : DriveQuestion} {ks : List ℕ} {v : Van} {a x : ℕ} → drive_fault nodes roads q ks ≡ Passed
-    → drive_all (van_of q) (roads_of roads ks) ≡ On v → v.charge ≡ a → v.spilled ≡ x → DriveRow q ks a x
+drive_row : {q : DriveQuestion} {ks : List ℕ} {v : Van} {a x : ℕ} → drive_fault nodes roads q ks ≡ Ok tt
+    → drive_all (van_of q) (roads_of roads ks) ≡ Some v → v.charge ≡ a → v.spilled ≡ x → DriveRow q ks a x
 drive_row {v} e d a x =
     record {
-      numbers = drive_numbers (route.Arrived v);
+      numbers = drive_numbers (Ok v);
       success = refl;
       arrival_is = a;
       spilled_is = x;
@@ -79,8 +76,8 @@ drive_row {v} e d a x =
     }
 
 profile_row : {m s : ℕ} {ks : List ℕ} {p : Profile} {n t : ℕ} {z : ℤ}
-    → profile_fault nodes roads (record { battery = pos m; source = s }) ks ≡ Passed
-    → profile_of (sized m) (roads_of roads ks) ≡ Passable p → p.need ≡ n → p.sum ≡ z → p.top ≡ t
+    → profile_fault nodes roads (record { battery = pos m; source = s }) ks ≡ Ok tt
+    → profile_of (sized m) (roads_of roads ks) ≡ Some p → p.need ≡ n → p.sum ≡ z → p.top ≡ t
     → Says (Row.profile m s ks n z t)
 profile_row {m} {s} {ks} {p} e f n z t =
     subst (Profiles nodes roads (record { battery = pos m; source = s }) ks)

@@ -1,6 +1,6 @@
 -- Document 01's five broken versions of best route. On network H, battery 1,000, no outcome that such a version could give
 -- meets the promise.
-use Rattle.std.specs.Prelude.{◌≡◌, List, [], ◌∷◌, ◌++◌, ◌≢◌, ℕ, ◌≤◌, ℤ, pos, ◌-ℤ◌, length, take, drop}
+use Rattle.std.specs.Prelude.{◌≡◌, List, [], ◌∷◌, ◌++◌, ◌≢◌, ℕ, ◌≤◌, ℤ, pos, ◌-ℤ◌, length, take, drop, Err}
 use Rattle.battery.specs.Rule.{charge_after}
 use Rattle.battery.specs.declared.Battery.{Battery}
 use Rattle.battery.specs.declared.Road.{Road}
@@ -8,7 +8,6 @@ use Rattle.journeys.specs.Walks.{roads_of, sum_of}
 use Rattle.refusals.specs.declared.Refusal.{Refusal}
 use Rattle.promises.specs.Given.{plan_numbers}
 use Rattle.promises.specs.Promises.{Plans}
-use Rattle.promises.specs.declared.Planned.TheVariants as planned
 use Rattle.promises.specs.declared.PlanNumbers.{PlanNumbers}
 use Rattle.hill.specs.Hill.{nodes, roads, sized, asks}
 
@@ -16,7 +15,7 @@ use Rattle.hill.specs.Hill.{nodes, roads, sized, asks}
 abbrev pub RefusesAll : Type 0
 RefusesAll =
     (list : List ℕ) (r : Refusal) (xs : List ℕ) → 3 ≤ length list
-    → Plans nodes roads (asks 1000 900 0 3) list (plan_numbers (planned.Refused r)) xs → ⊥
+    → Plans nodes roads (asks 1000 900 0 3) list (plan_numbers (Err r)) xs → ⊥
 
 -- reports one fixed arrival c: starts 900 and 700 from 0 to 3 arrive with different charges
 abbrev pub OneFixedArrival : Type 0

@@ -1,5 +1,5 @@
 -- What is proved of the files and of walks, in document 01's words. The proofs are in proofs/.
-use Rattle.std.specs.Prelude.{◌≡◌, true, List, ℕ, ◌≤◌, ℤ, pos}
+use Rattle.std.specs.Prelude.{◌≡◌, true, List, ℕ, ◌≤◌, ℤ, pos, Ok}
 use Rattle.std.specs.Int.Signed.{le_z}
 use Rattle.battery.specs.declared.Battery.{Battery}
 use Rattle.network.specs.Check.{records_fault}
@@ -7,7 +7,6 @@ use Rattle.network.specs.Files.{Passing}
 use Rattle.journeys.specs.Reasons.{Reason}
 use Rattle.journeys.specs.SetOff.{Enough, SetOff}
 use Rattle.journeys.specs.Walks.{Walk, roads_of, sum_of}
-use Rattle.refusals.specs.declared.Checked.TheVariants.{Passed}
 use Rattle.refusals.specs.declared.Refusal.{Refusal}
 
 -- if all roads pass, no closed trip gains energy: its consumptions sum to 0 or more
@@ -17,7 +16,7 @@ NoClosedGain =
 
 -- all roads pass where no record fails
 abbrev pub CheckedPassing : Type 0
-CheckedPassing = (ns rs : List ℕ) → records_fault ns rs ≡ Passed → Passing ns rs
+CheckedPassing = (ns rs : List ℕ) → records_fault ns rs ≡ Ok tt → Passing ns rs
 
 -- a junction has one number
 abbrev pub OneNumber : Type 0

@@ -1,12 +1,11 @@
 -- Walks over the road records of a file. rs is the road file, a road is named by its record number.
-use Rattle.std.specs.Prelude.{◌≡◌, List, [], ◌∷◌, map, ℕ, ℤ, pos, ◌+ℤ◌}
+use Rattle.std.specs.Prelude.{◌≡◌, List, [], ◌∷◌, map, ℕ, ℤ, pos, ◌+ℤ◌, Some}
 use Rattle.battery.specs.declared.Battery.{Battery}
 use Rattle.walks.specs.Walk.{Roads}
 use Rattle.walks.specs.Walk as walk
 use Rattle.battery.specs.Drive.{fresh, drive_all}
 use Rattle.battery.specs.declared.Road.{Road}
 use Rattle.battery.specs.declared.Van.{Van}
-use Rattle.battery.specs.declared.Drove.TheVariants.{On}
 use Rattle.network.specs.Files.{road_count, road_of}
 
 -- the roads of a file
@@ -28,7 +27,7 @@ roads_of rs ks = map (road_of rs) ks
 -- the rule can be applied at each road in turn, with the battery B and the start charge b
 pub record Feasible (B : Battery) (b : ℕ) (rs ks : List ℕ) : Type 0 where
   pub van : Van
-  pub drives : drive_all (fresh B b) (roads_of rs ks) ≡ On van
+  pub drives : drive_all (fresh B b) (roads_of rs ks) ≡ Some van
 
 -- the sum of the consumptions
 abbrev pub sum_of : List Road → ℤ

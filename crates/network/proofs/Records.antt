@@ -1,4 +1,5 @@
 -- What the tests of the files and of their records tell where all pass. Assumes nothing.
+use Rattle.std.specs.Prelude.{Ok}
 use mathlib.Core.Path.{◌≡◌}
 use mathlib.Core.Bool.{true}
 use mathlib.Core.List.{List}
@@ -14,7 +15,6 @@ use Rattle.battery.specs.Ready.{Ranged}
 use Rattle.battery.specs.Rule.{most_consumption}
 use Rattle.battery.specs.declared.Road.{Road}
 use Rattle.refusals.proofs.Faults.{first_passed, unless_passed, both_true, all_passed}
-use Rattle.refusals.specs.declared.Checked.TheVariants.{Passed}
 use Rattle.network.specs.Check.{road_fault, potential_fault, record_fault, records_fault}
 use Rattle.network.specs.Files.{junction_bytes, road_bytes, most_junctions, most_roads, junctions, road_count, junction_file, road_file, road_of, potential, in_range, passes}
 
@@ -40,20 +40,20 @@ pub record Sound (ns : List ℕ) (r : Road) : Type 0 where
   pub road : SoundRoad (junctions ns) r
   pub passing : passes r.consumption (potential ns r.tail) (potential ns r.head) ≡ true
 
-pub road_sound : (n k : ℕ) (r : Road) → road_fault n k r ≡ Passed → SoundRoad n r
+pub road_sound : (n k : ℕ) (r : Road) → road_fault n k r ≡ Ok tt → SoundRoad n r
 unfolding road_fault
 road_sound n k r e =
     let a = first_passed _ _ e in
     let d = both_true _ _ (unless_passed _ _ a.0) in
     record { tail_lt = ltb-true _ _ d.0; head_lt = ltb-true _ _ d.1; ranged = unless_passed _ _ a.1 }
 
-record_sound : (ns : List ℕ) (k : ℕ) (r : Road) → record_fault ns k r ≡ Passed → Sound ns r
+record_sound : (ns : List ℕ) (k : ℕ) (r : Road) → record_fault ns k r ≡ Ok tt → Sound ns r
 unfolding potential_fault
 record_sound ns k r e =
     let a = first_passed _ _ e in
     record { road = road_sound (junctions ns) k r a.0; passing = unless_passed _ _ a.1 }
 
-pub all_sound : (ns rs : List ℕ) → records_fault ns rs ≡ Passed → (k : ℕ) → k < road_count rs → Sound ns (road_of rs k)
+pub all_sound : (ns rs : List ℕ) → records_fault ns rs ≡ Ok tt → (k : ℕ) → k < road_count rs → Sound ns (road_of rs k)
 all_sound ns rs e k h = record_sound ns k (road_of rs k) (all_passed (λ j. record_fault ns j (road_of rs j)) (road_count rs) e k h)
 
 -- ---- 8, in naturals
@@ -66,7 +66,7 @@ gain_ranged : (c : ℤ) → le_z (neg_ℤ (pos most_consumption)) c ≡ true →
 gain_ranged (pos n) h = omega arith
 gain_ranged (negsuc n) h = let k = leb-true n (most_consumption - 1) h in omega arith
 
-pub all_ranged : (ns rs : List ℕ) → records_fault ns rs ≡ Passed → (k : ℕ) → k < road_count rs → Ranged (road_of rs k)
+pub all_ranged : (ns rs : List ℕ) → records_fault ns rs ≡ Ok tt → (k : ℕ) → k < road_count rs → Ranged (road_of rs k)
 all_ranged ns rs e k h =
     let c = (road_of rs k).consumption in
     let b = both_true (le_z (neg_ℤ (pos most_consumption)) c) (le_z c (pos most_consumption)) (all_sound ns rs e k h).road.ranged in

@@ -11,7 +11,7 @@ pub fn u16_at(s: &[u8], i: usize) -> u16
     requires { i + 2 ≤ length s.now }
     ensures { result ≡ u16_at s.now i }
 {
-    join16(s[i], s[i + 1])
+    u16::from_le_bytes([s[i], s[i + 1]])
 }
 
 // The signed 32-bit number at byte i, two's complement.
@@ -19,21 +19,21 @@ pub fn i32_at(s: &[u8], i: usize) -> i32
     requires { i + 4 ≤ length s.now }
     ensures { result ≡ i32_at s.now i }
 {
-    signed_32(u32_at(s, i))
+    i32::from_le_bytes([s[i], s[i + 1], s[i + 2], s[i + 3]])
 }
 
 // The larger of 0 and x.
 pub fn drawn(x: i32) -> u32
     ensures { result ≡ draw x }
 {
-    if 0 < x { x as u32 } else { 0 }
+    x.max(0) as u32
 }
 
 // The larger of 0 and -x.
 pub fn gained(x: i32) -> u32
     ensures { result ≡ gain x }
 {
-    if x < 0 { (-1 - x) as u32 + 1 } else { 0 }
+    x.min(0).unsigned_abs()
 }
 
 // A number that is not below 0 and fits 32 bits.
@@ -42,34 +42,4 @@ pub fn whole(x: i64) -> u32
     ensures { result ≡ draw x }
 {
     x as u32
-}
-
-fn u32_at(s: &[u8], i: usize) -> u32
-    requires { i + 4 ≤ length s.now }
-    ensures { result ≡ u32_at s.now i }
-{
-    join32(s[i], s[i + 1], s[i + 2], s[i + 3])
-}
-
-fn join16(a: u8, b: u8) -> u16
-    ensures { result ≡ a + 256 * b }
-{
-    a as u16 + 256 * (b as u16)
-}
-
-fn join32(a: u8, b: u8, c: u8, d: u8) -> u32
-    ensures { result ≡ a + 256 * b + 65536 * c + 16777216 * d }
-{
-    a as u32 + 256 * (b as u32) + 65536 * (c as u32) + 16777216 * (d as u32)
-}
-
-// What 32 bits mean in two's complement.
-fn signed_32(n: u32) -> i32
-    ensures { result ≡ signed32 n }
-{
-    if n < 2147483648 {
-        n as i32
-    } else {
-        -1 - ((4294967295 - n) as i32)
-    }
 }

@@ -1,4 +1,5 @@
 -- From the tests and the route's outcome to the promises of drive and profile. Assumes nothing.
+use Rattle.std.specs.Prelude.{Err, Ok, Result}
 use mathlib.Core.Path.{◌≡◌, ap, ◌∙◌}
 use mathlib.Core.Bool.{true}
 use mathlib.Core.List.{List}
@@ -9,17 +10,12 @@ use lib.ListN.{length}
 use Rattle.numbers.specs.Signed.{draw}
 use Rattle.refusals.specs.Order.{first}
 use Rattle.refusals.specs.declared.Refusal.{Refusal}
-use Rattle.refusals.specs.declared.Checked.{Checked}
-use Rattle.refusals.specs.declared.Checked.TheVariants as checked
+use Rattle.refusals.specs.Order.{Checked}
 use Rattle.battery.specs.Drive.{fresh}
 use Rattle.network.proofs.Records.{all_ranged}
 use Rattle.network.specs.Check.{records_fault}
 use Rattle.routes.specs.Places.{drive_faults, profile_faults}
 use Rattle.routes.specs.Steps.{DriveAsks, DriveKeeps, ProfileAsks, ProfileKeeps}
-use Rattle.routes.specs.declared.Driven.{Driven}
-use Rattle.routes.specs.declared.Driven.TheVariants as driven
-use Rattle.routes.specs.declared.Profiled.{Profiled}
-use Rattle.routes.specs.declared.Profiled.TheVariants as profiled
 use Rattle.promises.proofs.Passed.{battery_whole, start_whole, drive_passed, profile_passed}
 use Rattle.promises.specs.Given.{drive_numbers, profile_numbers}
 use Rattle.promises.specs.Order.{is_start, battery_of, van_of, drive_asked, drive_fault, profile_asked, profile_fault}
@@ -54,15 +50,15 @@ module _ (ns rs : List ℕ) (q : DriveQuestion) (es : List ℕ) where
   unfolding drive_fault
   fault_is e = ap (λ (y : Checked). first y (drive_faults rs q.source es (van_of q))) e
 
-  pub drive_refused : {r : Refusal} → drive_tests ≡ checked.Refused r → Drives ns rs q es (drive_numbers (driven.Refused r))
+  pub drive_refused : {r : Refusal} → drive_tests ≡ Err r → Drives ns rs q es (drive_numbers (Err r))
   drive_refused {r} e = Drives.refused r (fault_is e)
 
-  pub drive_asks : drive_tests ≡ checked.Passed → DriveAsks rs es (van_of q)
+  pub drive_asks : drive_tests ≡ Ok tt → DriveAsks rs es (van_of q)
   drive_asks e = let p = drive_passed ns rs q (length es) e in sets_out ns rs es q.battery q.start p.0 p.1
 
-  pub drive_kept : drive_tests ≡ checked.Passed → (d : Driven) → DriveKeeps rs es q.source (van_of q) d → Drives ns rs q es (drive_numbers d)
-  drive_kept e (driven.Arrived v) k = Drives.arrives v (fault_is e ∙ k.0) k.1
-  drive_kept e (driven.Refused r) k = Drives.refused r (fault_is e ∙ k)
+  pub drive_kept : drive_tests ≡ Ok tt → (d : Result Van Refusal) → DriveKeeps rs es q.source (van_of q) d → Drives ns rs q es (drive_numbers d)
+  drive_kept e (Ok v) k = Drives.arrives v (fault_is e ∙ k.0) k.1
+  drive_kept e (Err r) k = Drives.refused r (fault_is e ∙ k)
 
 module _ (ns rs : List ℕ) (q : ProfileQuestion) (es : List ℕ) where
   abbrev pub profile_tests : Checked
@@ -73,10 +69,10 @@ module _ (ns rs : List ℕ) (q : ProfileQuestion) (es : List ℕ) where
   unfolding profile_fault
   profile_is e = ap (λ (y : Checked). first y (profile_faults rs q.source es (battery_of q.battery))) e
 
-  pub profile_refused : {r : Refusal} → profile_tests ≡ checked.Refused r → Profiles ns rs q es (profile_numbers (profiled.Refused r))
+  pub profile_refused : {r : Refusal} → profile_tests ≡ Err r → Profiles ns rs q es (profile_numbers (Err r))
   profile_refused {r} e = Profiles.refused r (profile_is e)
 
-  pub profile_asks : profile_tests ≡ checked.Passed → ProfileAsks rs es (battery_of q.battery)
+  pub profile_asks : profile_tests ≡ Ok tt → ProfileAsks rs es (battery_of q.battery)
   profile_asks e =
       let p = profile_passed ns rs q (length es) e in
       record {
@@ -85,7 +81,7 @@ module _ (ns rs : List ℕ) (q : ProfileQuestion) (es : List ℕ) where
         battery_le = (battery_whole q.battery p.battery_ok).draw_le;
       }
 
-  pub profile_kept : profile_tests ≡ checked.Passed → (d : Profiled) → ProfileKeeps rs es q.source (battery_of q.battery) d
+  pub profile_kept : profile_tests ≡ Ok tt → (d : Result Profile Refusal) → ProfileKeeps rs es q.source (battery_of q.battery) d
       → Profiles ns rs q es (profile_numbers d)
-  profile_kept e (profiled.Known p) k = Profiles.known p (profile_is e ∙ k.0) k.1
-  profile_kept e (profiled.Refused r) k = Profiles.refused r (profile_is e ∙ k)
+  profile_kept e (Ok p) k = Profiles.known p (profile_is e ∙ k.0) k.1
+  profile_kept e (Err r) k = Profiles.refused r (profile_is e ∙ k)

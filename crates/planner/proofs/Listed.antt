@@ -1,5 +1,6 @@
 -- The route that was found: it stands at the front of the list, it is driven without a fault, and so best route keeps its promise.
 -- Assumes nothing.
+use Rattle.std.specs.Prelude.{Ok, Result, Some}
 use mathlib.Core.Path.{◌≡◌, sym, ap, ◌∙◌}
 use mathlib.Core.List.{List}
 use Prim.Native.Nat.{ℕ, ◌≤◌}
@@ -8,23 +9,19 @@ use lib.ListN.{length, take, drop, length-append}
 use lib.Seq.{take-append_seam}
 use Rattle.numbers.specs.Signed.{draw}
 use Rattle.battery.specs.Drive.{drive_all}
-use Rattle.battery.specs.declared.Drove.TheVariants.{On}
 use Rattle.journeys.specs.Walks.{roads_of}
-use Rattle.refusals.specs.declared.Checked.TheVariants as checked
 use Rattle.routes.proofs.Exactly.{driven_exactly}
 use Rattle.routes.specs.Steps.{DriveAsks}
 use Rattle.promises.specs.Given.{plan_numbers}
 use Rattle.promises.specs.Order.{battery_of, plan_van, plan_fault}
 use Rattle.planner.specs.Planning.{FoundAsks, FoundKeeps}
 use Rattle.promises.specs.Promises.{Plans}
-use Rattle.promises.specs.declared.Planned.{Planned}
-use Rattle.promises.specs.declared.Planned.TheVariants as planned
 use Rattle.promises.specs.declared.PlanQuestion.{PlanQuestion}
 use Rattle.promises.proofs.Passed.{plan_passed}
 use Rattle.planner.proofs.Entries.{sets_out}
 use Rattle.planner.proofs.Searching.{BestWalk}
 
-module _ (ns rs : List ℕ) (q : PlanQuestion) (list : List ℕ) (passed : plan_fault ns rs q (length list) ≡ checked.Passed)
+module _ (ns rs : List ℕ) (q : PlanQuestion) (list : List ℕ) (passed : plan_fault ns rs q (length list) ≡ Ok tt)
     (count : ℕ) (list' : List ℕ) (w : BestWalk ns rs q list count list') where
   pub count_le : count ≤ length list'
   count_le = omega (arith, w.count_is, ap length w.list_is, length-append w.by (drop (length w.by) list))
@@ -50,9 +47,9 @@ module _ (ns rs : List ℕ) (q : PlanQuestion) (list : List ℕ) (passed : plan_
             (record { target = q.target; walk = w.arrives.walk }) (record { van = w.van; drives = w.arrives.drives });
       })
 
-  pub plans_route : (r : Planned) → FoundKeeps rs (take count list') (plan_van q) r → Plans ns rs q list (plan_numbers r) list'
+  pub plans_route : (r : Result Route Refusal) → FoundKeeps rs (take count list') (plan_van q) r → Plans ns rs q list (plan_numbers r) list'
   plans_route r k =
-      let d : drive_all (plan_van q) (roads_of rs w.by) ≡ On k.end = rw front at k.drives in
+      let d : drive_all (plan_van q) (roads_of rs w.by) ≡ Some k.end = rw front at k.drives in
       let v : w.van ≡ k.end = cc w.arrives.drives in
-      let p : r ≡ planned.Route (length w.by) w.van = k.is ∙ (λ i. planned.Route (length (front i)) (sym v i)) in
+      let p : r ≡ Ok ROUTE (length w.by) w.van = k.is ∙ (λ i. Ok ROUTE (length (front i)) (sym v i)) in
       rw (p, w.list_is) (Plans.route w.by w.van passed w.arrives w.once w.most)

@@ -1,4 +1,5 @@
 -- From the search's promise, which speaks of labels, to that of best route, which speaks of roads and charges. Assumes nothing.
+use Rattle.std.specs.Prelude.{Err, None, Ok, Option, Some}
 use mathlib.Core.Path.{◌≡◌, refl, ap, ◌∙◌}
 use mathlib.Core.List.{List, ◌++◌}
 use Prim.Native.Nat.{ℕ, suc, ◌+◌, ◌≤◌, ◌<◌}
@@ -6,12 +7,9 @@ use native.Mathlib.Omega.{arith}
 use lib.ListN.{length, drop}
 use Rattle.numbers.specs.Signed.{draw}
 use Rattle.battery.specs.Drive.{drive_all}
-use Rattle.battery.specs.declared.Drove.{Drove}
-use Rattle.battery.specs.declared.Drove.TheVariants.{On, TooLow}
 use Rattle.battery.specs.declared.Van.{Van}
 use Rattle.network.specs.Files.{junctions}
 use Rattle.journeys.specs.Walks.{Once, roads_of}
-use Rattle.refusals.specs.declared.Checked.TheVariants as checked
 use Rattle.refusals.specs.declared.Refusal.{Refusal}
 use Rattle.walks.specs.Label.{after}
 use Rattle.reading.proofs.Forward.{label, label_after}
@@ -24,7 +22,6 @@ use Rattle.trips.specs.declared.Found.TheVariants.{Nowhere, Roads}
 use Rattle.promises.specs.Given.{plan_numbers}
 use Rattle.promises.specs.Order.{battery_of, plan_van, plan_fault}
 use Rattle.promises.specs.Promises.{Arrives, Most, Plans}
-use Rattle.promises.specs.declared.Planned.TheVariants as planned
 use Rattle.promises.specs.declared.PlanQuestion.{PlanQuestion}
 use Rattle.promises.proofs.Passed.{battery_whole, start_whole}
 use Rattle.promises.specs.Passed.{PlanPassed}
@@ -61,9 +58,9 @@ FindsFor ns rs q v list found list' = Finds v.battery ns rs (trip_for q v) list 
 
 -- ---- labels and charges
 
-arrived : (d : Drove) → 0 < label d → (v : Van) × (d ≡ On v)
-arrived (On v) h = (v, refl)
-arrived TooLow h = absurd (omega arith)
+arrived : (d : Option Van) → 0 < label d → (v : Van) × (d ≡ Some v)
+arrived (Some v) h = (v, refl)
+arrived None h = absurd (omega arith)
 
 module _ (rs : List ℕ) (q : PlanQuestion) where
   -- the label that a walk brings
@@ -87,10 +84,10 @@ module _ (rs : List ℕ) (q : PlanQuestion) where
 
 -- ---- what the search found
 
-module _ (ns rs : List ℕ) (q : PlanQuestion) (list : List ℕ) (passed : plan_fault ns rs q (length list) ≡ checked.Passed) where
+module _ (ns rs : List ℕ) (q : PlanQuestion) (list : List ℕ) (passed : plan_fault ns rs q (length list) ≡ Ok tt) where
   -- no route
   pub plans_none : (r : Refusal) (list' : List ℕ) → FindsFor ns rs q (plan_van q) list (Nowhere r) list'
-      → Plans ns rs q list (plan_numbers (planned.Refused r)) list'
+      → Plans ns rs q list (plan_numbers (Err r)) list'
   plans_none r list' (nowhere best reason) = Plans.none r passed (λ ks v a. omega (arith, bound rs q 0 best ks v a)) reason
 
 -- a route, in roads and charges

@@ -1,4 +1,5 @@
 -- Best route is refused for no route exactly below a junction's number, or always where that is −1. Assumes nothing.
+use Rattle.std.specs.Prelude.{Ok}
 use mathlib.Core.Path.{◌≡◌, refl, sym, ap, ◌∙◌, subst}
 use mathlib.Core.Bool.{true}
 use mathlib.Core.List.{List}
@@ -15,7 +16,6 @@ use Rattle.journeys.proofs.Reasons.{enough_joined}
 use Rattle.journeys.proofs.SetOff.{one_number}
 use Rattle.network.specs.Files.{junctions, is_junction}
 use Rattle.journeys.specs.SetOff.{SetOff, least, never}
-use Rattle.refusals.specs.declared.Checked.TheVariants.{Passed}
 use Rattle.promises.proofs.NoRoutes.{no_route_exactly, reason_exactly, arrives_enough, above_start, in_range}
 use Rattle.promises.specs.Claims.{Exactly, WhichReason}
 use Rattle.promises.specs.Order.{battery_of, is_battery, is_start, plan_fault}
@@ -65,7 +65,7 @@ module _ (ns rs : List ℕ) (p : SetOffQuestion) (list : List ℤ) (q : PlanQues
   battery_ok = ap is_battery battery_is ∙ c.battery_ok
 
   -- best route's tests pass too
-  passed : plan_fault ns rs q (length route) ≡ Passed
+  passed : plan_fault ns rs q (length route) ≡ Ok tt
   unfolding plan_fault
   passed =
       let t : is_junction ns q.target ≡ true = ap (is_junction ns) target_is ∙ c.depot_ok in

@@ -1,4 +1,5 @@
 -- The tests before a search, or before the first place of a route, give refusals for the input only. Assumes nothing.
+use Rattle.std.specs.Prelude.{Err}
 use mathlib.Core.Path.{◌≡◌, refl}
 use mathlib.Core.Bool.{◌&&◌}
 use mathlib.Core.List.{List}
@@ -8,7 +9,6 @@ use lib.IntN.{ℤ}
 use Rattle.refusals.proofs.Early.{Early, input, kind, unless_early, first_early, from_early, early_kind}
 use Rattle.refusals.specs.Order.{first}
 use Rattle.refusals.specs.Refusals.{number_of}
-use Rattle.refusals.specs.declared.Checked.TheVariants.{Refused}
 use Rattle.refusals.specs.declared.Refusal.{Refusal}
 use Rattle.refusals.specs.declared.Refusal.TheVariants as refusal
 use Rattle.battery.specs.declared.Road.{Road}
@@ -54,6 +54,6 @@ drive_early ns rs q n =
     first_early (first_early (files_early ns rs) (first_early (energy_early q.battery q.start) source)) (records_early ns rs)
 
 -- what best route is refused with before its search
-pub plan_kind : (ns rs : List ℕ) (q : PlanQuestion) (n : ℕ) {r : Refusal} → plan_fault ns rs q n ≡ Refused r
+pub plan_kind : (ns rs : List ℕ) (q : PlanQuestion) (n : ℕ) {r : Refusal} → plan_fault ns rs q n ≡ Err r
     → kind (number_of r) ≡ input
 plan_kind ns rs q n e = early_kind (plan_early ns rs q n) e

@@ -1,5 +1,6 @@
 -- Demand 3 on one fixed route, of the outcomes of the drive entry. Two queries, each with files and a list of road numbers
 -- of its own, whose roads agree place by place in ends and consumption. Assumes nothing.
+use Rattle.std.specs.Prelude.{Err, None, Ok}
 use mathlib.Core.Path.{◌≡◌, refl, sym, ap, ◌∙◌}
 use mathlib.Core.List.{List}
 use mathlib.Core.Logic.{◌⊎◌, inl, inr}
@@ -12,18 +13,15 @@ use Rattle.battery.proofs.Monotone.{fixed_route}
 use Rattle.battery.specs.Claims.{Rises}
 use Rattle.battery.specs.Drive.{drive_all}
 use Rattle.battery.specs.declared.Van.{Van}
-use Rattle.battery.specs.declared.Drove.TheVariants.{TooLow}
 use Rattle.refusals.proofs.Early.{Early, kind, early_kind, number_pos}
 use Rattle.refusals.specs.Order.{first}
 use Rattle.network.specs.Check.{records_fault}
 use Rattle.refusals.specs.Refusals.{number_of}
 use Rattle.journeys.specs.Walks.{roads_of}
 use Rattle.refusals.specs.declared.Refusal.{Refusal}
-use Rattle.refusals.specs.declared.Checked.{Checked}
-use Rattle.refusals.specs.declared.Checked.TheVariants.{Passed, Refused}
+use Rattle.refusals.specs.Order.{Checked}
 use Rattle.routes.proofs.Low.{low_route}
 use Rattle.routes.specs.Places.{drive_faults}
-use Rattle.routes.specs.declared.Driven.TheVariants as driven
 use Rattle.promises.specs.Claims.{NoLess, FixedRoute}
 use Rattle.promises.specs.Given.{drive_numbers}
 use Rattle.promises.specs.Order.{battery_of, van_of, drive_asked, drive_fault}
@@ -36,14 +34,14 @@ use Rattle.promises.proofs.Early.{drive_early}
 
 -- a drive refused with 14 is refused at its route, which cannot be driven
 low_drive : (ns rs : List ℕ) (q : DriveQuestion) (es : List ℕ) {r : Refusal} → number_of r ≡ 14
-    → drive_fault ns rs q es ≡ Refused r → drive_all (van_of q) (roads_of rs es) ≡ TooLow
+    → drive_fault ns rs q es ≡ Err r → drive_all (van_of q) (roads_of rs es) ≡ None
 unfolding drive_fault
 low_drive ns rs q es {r} n e = go (first (drive_asked ns rs q (length es)) (records_fault ns rs)) (drive_early ns rs q (length es)) e
   where
-    go : (x : Checked) → Early x → first x (drive_faults rs q.source es (van_of q)) ≡ Refused r
-        → drive_all (van_of q) (roads_of rs es) ≡ TooLow
-    go Passed p h = low_route rs q.source es (van_of q) n h
-    go (Refused s) p h =
+    go : (x : Checked) → Early x → first x (drive_faults rs q.source es (van_of q)) ≡ Err r
+        → drive_all (van_of q) (roads_of rs es) ≡ None
+    go (Ok tt) p h = low_route rs q.source es (van_of q) n h
+    go (Err s) p h =
         let z : ◌≡◌ {A = ℕ} 0 1 = cc (early_kind p h, ap kind n) in
         absurd (omega arith)
 
@@ -51,7 +49,7 @@ low_drive ns rs q es {r} n e = go (first (drive_asked ns rs q (length es)) (reco
 
 second : {ns rs : List ℕ} {q q' : DriveQuestion} {es : List ℕ} {v : Van} {b : DriveNumbers} → Drives ns rs q' es b
     → Rises (battery_of q.battery) (battery_of q'.battery) (draw q.start) (draw q'.start) (roads_of rs es) v
-    → (b.number ≡ 0) ⊎ (b.number ≡ 14) → NoLess q q' (drive_numbers (driven.Arrived v)) b
+    → (b.number ≡ 0) ⊎ (b.number ≡ 14) → NoLess q q' (drive_numbers (Ok v)) b
 second (Drives.refused r f) t (inl z) = absurd (omega (arith, number_pos r))
 second {ns} {rs} {q'} {es} (Drives.refused r f) t (inr n) =
     let z : ◌≡◌ {A = ℕ} 0 1 = cc (low_drive ns rs q' es n f, t.drives) in

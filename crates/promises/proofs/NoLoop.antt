@@ -1,11 +1,10 @@
 -- A walk that returns to a junction never arrives with more than the walk without the loop. Assumes nothing.
+use Rattle.std.specs.Prelude.{None, Option, Some}
 use mathlib.Core.Path.{◌≡◌, refl, ap}
 use mathlib.Core.List.{◌++◌}
 use Prim.Native.Nat.{suc, ◌≤◌}
 use native.Mathlib.Omega.{arith}
 use Rattle.battery.specs.Drive.{fresh, drive_all}
-use Rattle.battery.specs.declared.Drove.{Drove}
-use Rattle.battery.specs.declared.Drove.TheVariants.{On, TooLow}
 use Rattle.battery.specs.declared.Van.{Van}
 use Rattle.journeys.specs.Walks.{roads_of}
 use Rattle.walks.proofs.Loops.{loop_no_more}
@@ -15,9 +14,9 @@ use Rattle.reading.specs.Reading.{forward, psi, net}
 use Rattle.promises.specs.Claims.{LoopNoMore}
 
 -- a drive that arrives with no less
-at_least : (w : Van) (d : Drove) → suc w.charge ≤ label d → (u : Van) × (d ≡ On u) × (w.charge ≤ u.charge)
-at_least w (On u) h = (u, refl, omega arith)
-at_least w TooLow h = absurd (omega arith)
+at_least : (w : Van) (d : Option Van) → suc w.charge ≤ label d → (u : Van) × (d ≡ Some u) × (w.charge ≤ u.charge)
+at_least w (Some u) h = (u, refl, omega arith)
+at_least w None h = absurd (omega arith)
 
 pub no_loop : LoopNoMore
 unfolding net

@@ -1,5 +1,6 @@
 -- 10, 16 or 17 is given exactly when no feasible walk exists and none of 1 to 9 applies, and each exactly for its reason.
 -- Assumes nothing.
+use Rattle.std.specs.Prelude.{Err, Ok}
 use mathlib.Core.Path.{◌≡◌, refl, ap}
 use mathlib.Core.List.{List}
 use mathlib.Core.Logic.{inl, inr}
@@ -19,12 +20,10 @@ use Rattle.journeys.specs.Reasons.{Reason, more_charge, never_enough, not_joined
 use Rattle.journeys.specs.SetOff.{SetOff, least, never}
 use Rattle.refusals.specs.Refusals.{number_of}
 use Rattle.refusals.specs.declared.Refusal.{Refusal}
-use Rattle.refusals.specs.declared.Checked.TheVariants.{Passed, Refused}
 use Rattle.promises.specs.Claims.{NoRoute, NoRouteExactly, WouldDo, LeastStart, WhichReason, ReasonExactly}
 use Rattle.promises.specs.Given.{plan_numbers}
 use Rattle.promises.specs.Order.{battery_of, plan_fault}
 use Rattle.promises.specs.Promises.{Arrives, NoWalk, Plans}
-use Rattle.promises.specs.declared.Planned.TheVariants as planned
 use Rattle.promises.specs.declared.PlanQuestion.{PlanQuestion}
 use Rattle.promises.proofs.Early.{plan_kind}
 use Rattle.promises.proofs.Passed.{start_whole, plan_passed}
@@ -38,7 +37,7 @@ no_route_kind (inr (inr e)) = ap kind e
 
 -- they are not told of the input
 pub not_early : {X : Type 0} (ns rs : List ℕ) (q : PlanQuestion) (list : List ℕ) {r : Refusal}
-    → plan_fault ns rs q (length list) ≡ Refused r → NoRoute (number_of r) → X
+    → plan_fault ns rs q (length list) ≡ Err r → NoRoute (number_of r) → X
 not_early ns rs q list {r} e n =
     let z : ◌≡◌ {A = ℕ} 0 1 = cc (plan_kind ns rs q (length list) e, no_route_kind n) in
     absurd (omega arith)
@@ -78,7 +77,7 @@ module _ (rs : List ℕ) (q : PlanQuestion) (in_range : draw q.start ≤ draw q.
 
 -- ---- which of the three
 
-module _ (ns rs : List ℕ) (q : PlanQuestion) (list : List ℕ) (passed : plan_fault ns rs q (length list) ≡ Passed) where
+module _ (ns rs : List ℕ) (q : PlanQuestion) (list : List ℕ) (passed : plan_fault ns rs q (length list) ≡ Ok tt) where
   pub in_range : draw q.start ≤ draw q.battery
   in_range = let c = plan_passed ns rs q (length list) passed in (start_whole q.battery q.start c.battery_ok c.start_ok).1
 
@@ -86,7 +85,7 @@ module _ (ns rs : List ℕ) (q : PlanQuestion) (list : List ℕ) (passed : plan_
   least_start b none (least c e m) = record { would_do = e; least = m; above = above_start rs q in_range c e none }
 
   which : (r : Refusal) → NoWalk rs q → Reason (battery_of q.battery) rs q.source q.target r
-      → WhichReason ns rs q list (plan_numbers (planned.Refused r))
+      → WhichReason ns rs q list (plan_numbers (Err r))
   which r none (more_charge {b} s) =
       let l = least_start b none s in
       record {

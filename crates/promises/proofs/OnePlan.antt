@@ -1,5 +1,6 @@
 -- Two outcomes of best route on the same input agree in number, place and arrival; a refusal leaves nothing free, and with
 -- the same list after it all numbers are the same. Assumes nothing.
+use Rattle.std.specs.Prelude.{Err, Ok}
 use mathlib.Core.Path.{◌≡◌, refl, ap}
 use mathlib.Core.List.{List}
 use Prim.Native.Nat.{ℕ}
@@ -16,7 +17,6 @@ use Rattle.promises.specs.Claims.{Agree, OnePlan}
 use Rattle.promises.specs.Given.{plan_numbers}
 use Rattle.promises.specs.Order.{plan_van}
 use Rattle.promises.specs.Promises.{Arrives, Plans}
-use Rattle.promises.specs.declared.Planned.TheVariants as planned
 use Rattle.promises.specs.declared.PlanNumbers.{PlanNumbers}
 use Rattle.promises.specs.declared.PlanQuestion.{PlanQuestion}
 
@@ -33,21 +33,21 @@ agree_same e =
 
 -- walks by the same roads give the same numbers
 same_roads : {rs : List ℕ} {q : PlanQuestion} {ks js : List ℕ} {v w : Van} → Arrives rs q ks v → Arrives rs q js w → ks ≡ js
-    → plan_numbers (planned.Route (length ks) v) ≡ plan_numbers (planned.Route (length js) w)
+    → plan_numbers (Ok ROUTE (length ks) v) ≡ plan_numbers (Ok ROUTE (length js) w)
 same_roads {rs} {q} {ks} {js} {v} {w} a b e =
     let d = ap (λ (xs : List ℕ). drive_all (plan_van q) (roads_of rs xs)) e in
     let u : v ≡ w = cc (a.drives, b.drives) in
-    let p : plan_numbers (planned.Route (length ks) v) ≡ plan_numbers (planned.Route (length js) w) = cc in
+    let p : plan_numbers (Ok ROUTE (length ks) v) ≡ plan_numbers (Ok ROUTE (length js) w) = cc in
     p
 
 pub one_plan : OnePlan
 one_plan ns rs q list a b xs ys (Plans.refused r e) (Plans.refused s f) =
-    agree_same (ap (λ (x : Refusal). plan_numbers (planned.Refused x)) (same_refusal e f))
+    agree_same (ap (λ (x : Refusal). plan_numbers (Err x)) (same_refusal e f))
 one_plan ns rs q list a b xs ys (Plans.refused r e) (Plans.none s f h y) = not_both f e
 one_plan ns rs q list a b xs ys (Plans.refused r e) (Plans.route js w f h o m) = not_both f e
 one_plan ns rs q list a b xs ys (Plans.none r e g x) (Plans.refused s f) = not_both e f
 one_plan ns rs q list a b xs ys (Plans.none r e g x) (Plans.none s f h y) =
-    agree_same (ap (λ (z : Refusal). plan_numbers (planned.Refused z)) (one_reason _ rs _ _ r s x y))
+    agree_same (ap (λ (z : Refusal). plan_numbers (Err z)) (one_reason _ rs _ _ r s x y))
 one_plan ns rs q list a b xs ys (Plans.none r e g x) (Plans.route js w f h o m) = absurd (g js w h)
 one_plan ns rs q list a b xs ys (Plans.route ks v e g o m) (Plans.refused s f) = not_both e f
 one_plan ns rs q list a b xs ys (Plans.route ks v e g o m) (Plans.none s f h y) = absurd (h ks v g)

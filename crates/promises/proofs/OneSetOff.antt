@@ -1,4 +1,5 @@
 -- The charges to set off with: one possible outcome, and the depot's number is 0. Assumes nothing.
+use Rattle.std.specs.Prelude.{Err}
 use mathlib.Core.Path.{◌≡◌, refl, ap, ◌∙◌, sym}
 use mathlib.Core.List.{List}
 use Prim.Native.Nat.{ℕ, ◌<◌}
@@ -11,7 +12,6 @@ use Rattle.refusals.proofs.Early.{number_pos}
 use Rattle.battery.specs.declared.Battery.{Battery}
 use Rattle.journeys.proofs.SetOff.{one_number, depot_number}
 use Rattle.network.specs.Files.{junctions}
-use Rattle.refusals.specs.declared.Checked.TheVariants.{Refused}
 use Rattle.refusals.specs.declared.Refusal.{Refusal}
 use Rattle.promises.specs.Given.{check_numbers}
 use Rattle.promises.specs.ClaimsSetOff.{OneSetOff, DepotHasZero}
@@ -28,7 +28,7 @@ module _ {ns rs : List ℕ} {B : Battery} {depot : ℕ} {list xs ys : List ℤ} 
 
 pub one_set_off : OneSetOff
 one_set_off ns rs q list a b xs ys (SetsOff.refused r e) (SetsOff.refused s f) =
-    (ap (λ (x : Refusal). check_numbers (Refused x)) (same_refusal e f), refl)
+    (ap (λ (x : Refusal). check_numbers (Err x)) (same_refusal e f), refl)
 one_set_off ns rs q list a b xs ys (SetsOff.refused r e) (SetsOff.known f n) = not_both f e
 one_set_off ns rs q list a b xs ys (SetsOff.known e n) (SetsOff.refused s f) = not_both e f
 one_set_off ns rs q list a b xs ys (SetsOff.known e n) (SetsOff.known f m) = (refl, same_numbers n m)

@@ -1,4 +1,5 @@
 -- What the tests of each entry tell where all pass. Assumes nothing.
+use Rattle.std.specs.Prelude.{Ok}
 use mathlib.Core.Path.{◌≡◌}
 use mathlib.Core.Bool.{true}
 use mathlib.Core.List.{List}
@@ -11,7 +12,6 @@ use lib.Signed.{le_z}
 use Rattle.numbers.specs.Signed.{draw}
 use Rattle.refusals.proofs.Faults.{first_passed, unless_passed, both_true}
 use Rattle.refusals.specs.Order.{first}
-use Rattle.refusals.specs.declared.Checked.TheVariants.{Passed}
 use Rattle.refusals.specs.declared.Refusal.TheVariants as refusal
 use Rattle.battery.specs.Rule.{most_battery}
 use Rattle.network.proofs.Records.{few_junctions, few_roads}
@@ -43,33 +43,33 @@ start_whole (negsuc n) b e f = let z : ◌≡◌ {A = ℕ} 0 1 = cc in absurd (o
 
 -- ---- one test, or two
 
-files_passed : (ns rs : List ℕ) → files_fault ns rs ≡ Passed → records_fault ns rs ≡ Passed → FilesPassed ns rs
+files_passed : (ns rs : List ℕ) → files_fault ns rs ≡ Ok tt → records_fault ns rs ≡ Ok tt → FilesPassed ns rs
 files_passed ns rs e r =
     let a = first_passed _ _ e in
     let n = unless_passed (junction_file ns) refusal.JunctionFile a.0 in
     let k = unless_passed (road_file rs) refusal.RoadFile a.1 in
     record { nodes_ok = n; roads_ok = k; few = few_junctions ns n; few_roads = few_roads rs k; records_ok = r }
 
-battery_passed : (m : ℤ) → battery_fault m ≡ Passed → is_battery m ≡ true
+battery_passed : (m : ℤ) → battery_fault m ≡ Ok tt → is_battery m ≡ true
 battery_passed m e = unless_passed (is_battery m) refusal.Battery e
 
-energy_passed : (m b : ℤ) → energy_fault m b ≡ Passed → (is_battery m ≡ true) × (is_start m b ≡ true)
+energy_passed : (m b : ℤ) → energy_fault m b ≡ Ok tt → (is_battery m ≡ true) × (is_start m b ≡ true)
 energy_passed m b e =
     let a = first_passed _ _ e in
     (battery_passed m a.0, unless_passed (is_start m b) refusal.Start a.1)
 
-junction_passed : (ns : List ℕ) (v : ℕ) → junction_fault ns v ≡ Passed → is_junction ns v ≡ true
+junction_passed : (ns : List ℕ) (v : ℕ) → junction_fault ns v ≡ Ok tt → is_junction ns v ≡ true
 junction_passed ns v e = unless_passed (is_junction ns v) refusal.NoJunction e
 
-room_passed : (m n : ℕ) → room_fault m n ≡ Passed → m ≤ n
+room_passed : (m n : ℕ) → room_fault m n ≡ Ok tt → m ≤ n
 room_passed m n e = leb-true m n (unless_passed (leb m n) refusal.ShortList e)
 
-length_passed : (n : ℕ) → length_fault n ≡ Passed → n ≤ most_entries
+length_passed : (n : ℕ) → length_fault n ≡ Ok tt → n ≤ most_entries
 length_passed n e = leb-true n most_entries (unless_passed (leb n most_entries) refusal.LongRoute e)
 
 -- ---- the entries
 
-pub plan_passed : (ns rs : List ℕ) (q : PlanQuestion) (n : ℕ) → plan_fault ns rs q n ≡ Passed → PlanPassed ns rs q n
+pub plan_passed : (ns rs : List ℕ) (q : PlanQuestion) (n : ℕ) → plan_fault ns rs q n ≡ Ok tt → PlanPassed ns rs q n
 unfolding plan_fault
 plan_passed ns rs q n e =
     let records = first_passed (plan_asked ns rs q n) _ e in
@@ -88,7 +88,7 @@ plan_passed ns rs q n e =
       room = omega arith;
     }
 
-pub drive_passed : (ns rs : List ℕ) (q : DriveQuestion) (n : ℕ) → first (drive_asked ns rs q n) (records_fault ns rs) ≡ Passed
+pub drive_passed : (ns rs : List ℕ) (q : DriveQuestion) (n : ℕ) → first (drive_asked ns rs q n) (records_fault ns rs) ≡ Ok tt
     → RoutePassed ns rs q.battery n × (is_start q.battery q.start ≡ true)
 drive_passed ns rs q n e =
     let records = first_passed (drive_asked ns rs q n) _ e in
@@ -103,7 +103,7 @@ drive_passed ns rs q n e =
       numbers.1,
     )
 
-pub profile_passed : (ns rs : List ℕ) (q : ProfileQuestion) (n : ℕ) → first (profile_asked ns rs q n) (records_fault ns rs) ≡ Passed
+pub profile_passed : (ns rs : List ℕ) (q : ProfileQuestion) (n : ℕ) → first (profile_asked ns rs q n) (records_fault ns rs) ≡ Ok tt
     → RoutePassed ns rs q.battery n
 profile_passed ns rs q n e =
     let records = first_passed (profile_asked ns rs q n) _ e in
@@ -115,7 +115,7 @@ profile_passed ns rs q n e =
       entries_le = length_passed n (first_passed (junction_fault ns q.source) _ battery.1).1;
     }
 
-pub set_off_passed : (ns rs : List ℕ) (q : SetOffQuestion) (n : ℕ) → set_off_fault ns rs q n ≡ Passed → SetOffPassed ns rs q n
+pub set_off_passed : (ns rs : List ℕ) (q : SetOffQuestion) (n : ℕ) → set_off_fault ns rs q n ≡ Ok tt → SetOffPassed ns rs q n
 unfolding set_off_fault
 set_off_passed ns rs q n e =
     let records = first_passed (set_off_asked ns rs q n) _ e in

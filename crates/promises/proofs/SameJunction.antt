@@ -1,11 +1,11 @@
 -- Source = target: best route gives the empty route, and arrives with the start charge. Assumes nothing.
+use Rattle.std.specs.Prelude.{Ok, Some}
 use mathlib.Core.Path.{◌≡◌, refl, sym, ap, subst}
 use mathlib.Core.List.{List, [], ◌++◌}
 use Prim.Native.Nat.{ℕ}
 use lib.ListN.{length, drop}
 use Rattle.refusals.proofs.Faults.{not_both}
 use Rattle.battery.specs.Drive.{drive_all}
-use Rattle.battery.specs.declared.Drove.TheVariants.{On}
 use Rattle.battery.specs.declared.Van.{Van}
 use Rattle.journeys.specs.Walks.{Walk, roads_of}
 use Rattle.walks.proofs.Stops.{once_closed}
@@ -14,7 +14,6 @@ use Rattle.promises.specs.Claims.{StaysPut, SameJunction}
 use Rattle.promises.specs.Given.{plan_numbers}
 use Rattle.promises.specs.Order.{plan_van}
 use Rattle.promises.specs.Promises.{Arrives, Plans}
-use Rattle.promises.specs.declared.Planned.TheVariants as planned
 use Rattle.promises.specs.declared.PlanQuestion.{PlanQuestion}
 
 -- the empty walk
@@ -23,8 +22,8 @@ unfolding drive_all
 stay_arrives rs q e = record { walk = subst (λ v. Walk rs q.source [] v) e stay; drives = refl }
 
 no_roads : (rs : List ℕ) (q : PlanQuestion) (list : List ℕ) (ks : List ℕ) (v : Van) → ks ≡ []
-    → drive_all (plan_van q) (roads_of rs ks) ≡ On v
-    → StaysPut q list (plan_numbers (planned.Route (length ks) v)) (ks ++ drop (length ks) list)
+    → drive_all (plan_van q) (roads_of rs ks) ≡ Some v
+    → StaysPut q list (plan_numbers (Ok ROUTE (length ks) v)) (ks ++ drop (length ks) list)
 unfolding drive_all
 no_roads rs q list ks v e d =
     let f = ap (λ (xs : List ℕ). drive_all (plan_van q) (roads_of rs xs)) e in

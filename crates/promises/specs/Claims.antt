@@ -1,17 +1,15 @@
 -- What is proved of the promises. The proofs are in proofs/.
-use Rattle.std.specs.Prelude.{◌≡◌, true, List, ◌++◌, ◌⊎◌, ◌≢◌, ℕ, ◌+◌, ◌-◌, ◌≤◌, ◌<◌, max, length}
+use Rattle.std.specs.Prelude.{◌≡◌, true, List, ◌++◌, ◌⊎◌, ◌≢◌, ℕ, ◌+◌, ◌-◌, ◌≤◌, ◌<◌, max, length, Ok, Some}
 use Rattle.std.specs.Int.Signed.{le_z}
 use Rattle.numbers.specs.Signed.{draw}
 use Rattle.battery.specs.Drive.{fresh, drive_all}
 use Rattle.battery.specs.declared.Battery.{Battery}
-use Rattle.battery.specs.declared.Drove.TheVariants.{On}
 use Rattle.battery.specs.declared.Road.{Road}
 use Rattle.battery.specs.declared.Van.{Van}
 use Rattle.network.specs.Files.{road_count, road_of, Passing}
 use Rattle.journeys.specs.Reasons.{Joined}
 use Rattle.journeys.specs.SetOff.{Enough}
 use Rattle.journeys.specs.Walks.{Walk, roads_of}
-use Rattle.refusals.specs.declared.Checked.TheVariants.{Passed}
 use Rattle.promises.specs.Order.{battery_of, plan_fault}
 use Rattle.promises.specs.Promises.{NoWalk, Checks, Plans, Drives, Profiles}
 use Rattle.promises.specs.declared.PlanNumbers.{PlanNumbers}
@@ -75,8 +73,8 @@ NoRoute n = (n ≡ 10) ⊎ ((n ≡ 16) ⊎ (n ≡ 17))
 
 -- one of them exactly when no feasible walk exists and none of 1 to 9 applies
 pub record Exactly (ns rs : List ℕ) (q : PlanQuestion) (list : List ℕ) (a : PlanNumbers) : Type 0 where
-  pub means : NoRoute a.number → (plan_fault ns rs q (length list) ≡ Passed) × NoWalk rs q
-  pub given : plan_fault ns rs q (length list) ≡ Passed → NoWalk rs q → NoRoute a.number
+  pub means : NoRoute a.number → (plan_fault ns rs q (length list) ≡ Ok tt) × NoWalk rs q
+  pub given : plan_fault ns rs q (length list) ≡ Ok tt → NoWalk rs q → NoRoute a.number
 
 abbrev pub NoRouteExactly : Type 0
 NoRouteExactly =
@@ -106,12 +104,12 @@ pub record NoChain (rs : List ℕ) (q : PlanQuestion) (p : ℕ) : Type 0 where
 -- which of the three it is, where no feasible walk exists and none of 1 to 9 applies
 pub record WhichReason (ns rs : List ℕ) (q : PlanQuestion) (list : List ℕ) (a : PlanNumbers) : Type 0 where
   pub ten_means : a.number ≡ 10 → LeastStart rs q a.place
-  pub ten_given : plan_fault ns rs q (length list) ≡ Passed → NoWalk rs q → (b : ℕ) → WouldDo rs q b → a.number ≡ 10
+  pub ten_given : plan_fault ns rs q (length list) ≡ Ok tt → NoWalk rs q → (b : ℕ) → WouldDo rs q b → a.number ≡ 10
   pub sixteen_means : a.number ≡ 16 → NoStart rs q a.place
-  pub sixteen_given : plan_fault ns rs q (length list) ≡ Passed → ((b : ℕ) → WouldDo rs q b → ⊥) → Joined rs q.source q.target
+  pub sixteen_given : plan_fault ns rs q (length list) ≡ Ok tt → ((b : ℕ) → WouldDo rs q b → ⊥) → Joined rs q.source q.target
       → a.number ≡ 16
   pub seventeen_means : a.number ≡ 17 → NoChain rs q a.place
-  pub seventeen_given : plan_fault ns rs q (length list) ≡ Passed → (Joined rs q.source q.target → ⊥) → a.number ≡ 17
+  pub seventeen_given : plan_fault ns rs q (length list) ≡ Ok tt → (Joined rs q.source q.target → ⊥) → a.number ≡ 17
 
 abbrev pub ReasonExactly : Type 0
 ReasonExactly =
@@ -150,11 +148,11 @@ pub record StaysPut (q : PlanQuestion) (list : List ℕ) (a : PlanNumbers) (xs :
 abbrev pub SameJunction : Type 0
 SameJunction =
     (ns rs : List ℕ) (q : PlanQuestion) (list : List ℕ) (a : PlanNumbers) (xs : List ℕ)
-    → Plans ns rs q list a xs → q.source ≡ q.target → plan_fault ns rs q (length list) ≡ Passed → StaysPut q list a xs
+    → Plans ns rs q list a xs → q.source ≡ q.target → plan_fault ns rs q (length list) ≡ Ok tt → StaysPut q list a xs
 
 -- a walk that returns to a junction never arrives with more than the walk without the loop: battery B, start b
 abbrev pub LoopNoMore : Type 0
 LoopNoMore =
     (ns rs : List ℕ) (B : Battery) (b v : ℕ) (to loop on : List ℕ) (w : Van)
-    → Passing ns rs → Walk rs v loop v → drive_all (fresh B b) (roads_of rs (to ++ (loop ++ on))) ≡ On w
-    → (u : Van) × (drive_all (fresh B b) (roads_of rs (to ++ on)) ≡ On u) × (w.charge ≤ u.charge)
+    → Passing ns rs → Walk rs v loop v → drive_all (fresh B b) (roads_of rs (to ++ (loop ++ on))) ≡ Some w
+    → (u : Van) × (drive_all (fresh B b) (roads_of rs (to ++ on)) ≡ Some u) × (w.charge ≤ u.charge)

@@ -1,8 +1,7 @@
 -- What a question that passes its tests has. No promise cites this file.
-use Rattle.std.specs.Prelude.{◌≡◌, true, List, ℕ, ◌+◌, ◌≤◌, ◌<◌, ℤ, pos}
+use Rattle.std.specs.Prelude.{◌≡◌, true, List, ℕ, ◌+◌, ◌≤◌, ◌<◌, ℤ, pos, Ok}
 use Rattle.std.specs.Int.Signed.{le_z}
 use Rattle.numbers.specs.Signed.{draw}
-use Rattle.refusals.specs.declared.Checked.TheVariants as checked
 use Rattle.battery.specs.Rule.{most_battery}
 use Rattle.network.specs.Check.{records_fault}
 use Rattle.network.specs.Files.{junctions, road_count, most_junctions, most_roads, junction_file, road_file, is_junction}
@@ -22,7 +21,7 @@ pub record FilesPassed (ns rs : List ℕ) : Type 0 where
   pub roads_ok : road_file rs ≡ true
   pub few : junctions ns ≤ most_junctions
   pub few_roads : road_count rs ≤ most_roads
-  pub records_ok : records_fault ns rs ≡ checked.Passed
+  pub records_ok : records_fault ns rs ≡ Ok tt
 
 -- best route, with a lent list of n entries
 pub record PlanPassed (ns rs : List ℕ) (q : PlanQuestion) (n : ℕ) : Type 0 where

@@ -1,6 +1,7 @@
 -- What backward labels mean. A forward label (charge + 1) and a backward one (slack + 1) at the same junction meet where the
 -- charge is no less than the need, M less the slack: where their sum is above M + 1. They meet at one end of a road exactly
 -- where they meet at the other, so that the best backward label tells the least charge to set off with. Assumes nothing.
+use Rattle.std.specs.Prelude.{None, Option, Some}
 use mathlib.Core.Path.{◌≡◌, refl, sym, ap, ◌∙◌, subst}
 use mathlib.Core.List.{List, [], ◌∷◌, reverse, reverse-cons, reverse-reverse}
 use Prim.Native.Nat.{ℕ, zero, suc, ◌+◌, ◌-◌, ◌≤◌, ◌<◌, min}
@@ -9,8 +10,6 @@ use lib.IntN.{ℤ, pos, negsuc}
 use Rattle.numbers.specs.Signed.{draw, gain}
 use Rattle.battery.specs.declared.Battery.{Battery}
 use Rattle.battery.specs.Drive.{fresh, drive_all}
-use Rattle.battery.specs.declared.Drove.{Drove}
-use Rattle.battery.specs.declared.Drove.TheVariants.{On, TooLow}
 use Rattle.battery.specs.declared.Road.{Road}
 use Rattle.network.specs.Files.{road_of}
 use Rattle.journeys.specs.SetOff.{Enough, SetOff, least, never}
@@ -100,9 +99,9 @@ feasible_label B b rs ks w = omega (arith, label_after B b rs ks, ap label w.dri
 label_feasible : (B : Battery) (b : ℕ) (rs ks : List ℕ) → 0 < after (net (forward B) rs) ks (suc b) → Feasible B b rs ks
 label_feasible B b rs ks h = go (drive_all (fresh B b) (roads_of rs ks)) refl
   where
-    go : (d : Drove) → drive_all (fresh B b) (roads_of rs ks) ≡ d → Feasible B b rs ks
-    go (On v) e = record { van = v; drives = e }
-    go TooLow e = absurd (omega (arith, label_after B b rs ks, ap label e))
+    go : (d : Option Van) → drive_all (fresh B b) (roads_of rs ks) ≡ d → Feasible B b rs ks
+    go (Some v) e = record { van = v; drives = e }
+    go None e = absurd (omega (arith, label_after B b rs ks, ap label e))
 
 feasible_slack : (B : Battery) (b : ℕ) (rs ks : List ℕ) → b ≤ B.size → Feasible B b rs ks → B.size < b + back B rs ks (B.size + 1)
 feasible_slack B b rs ks h w =

@@ -1,15 +1,14 @@
 -- What a refusal speaks of, by its number; and tests that speak of the input only. Assumes nothing.
+use Rattle.std.specs.Prelude.{Err, Ok}
 use mathlib.Core.Path.{◌≡◌, sym, ap, ◌∙◌}
 use mathlib.Core.Bool.{Bool, true, false, ◌&&◌, ◌||◌, cond}
 use Prim.Native.Nat.{ℕ, zero, suc, ◌+◌, ◌<◌}
 use native.Mathlib.Omega.{arith}
 use lib.Dec.{eqb, leb}
-use Rattle.refusals.specs.Order.{unless, first, first_from}
+use Rattle.refusals.specs.Order.{Checked, unless, first, first_from}
 use Rattle.refusals.specs.Refusals.{number_of}
 use Rattle.refusals.specs.declared.Refusal.{Refusal}
 use Rattle.refusals.specs.declared.Refusal.TheVariants.{JunctionFile, RoadFile, Battery, Start, NoJunction, ShortList, Ends, Consumption, Potential, MoreCharge, LongRoute, NotRoad, NotHere, TooLow, Impassable, NeverEnough, NotJoined}
-use Rattle.refusals.specs.declared.Checked.{Checked}
-use Rattle.refusals.specs.declared.Checked.TheVariants.{Passed, Refused}
 
 -- the input (files, numbers asked, lent lists, records), which is tested before any road is followed; an entry of a given route;
 -- that there is no route
@@ -24,8 +23,8 @@ kind n = cond (eqb n 10 || (eqb n 16 || eqb n 17)) no_route (cond (leb 12 n && l
 
 -- passed, or refused for the input
 pub data Early : Checked → Type 0 where
-  passed : Early Passed
-  refused : {r : Refusal} → kind (number_of r) ≡ input → Early (Refused r)
+  passed : Early (Ok tt)
+  refused : {r : Refusal} → kind (number_of r) ≡ input → Early (Err r)
 
 pub unless_early : (t : Bool) (r : Refusal) → kind (number_of r) ≡ input → Early (unless t r)
 unless_early true r h = passed
@@ -41,7 +40,7 @@ from_early f g zero k = passed
 from_early f g (suc m) k = first_early (g k) (from_early f g m (k + 1))
 
 -- the kind of a refusal that such tests give
-pub early_kind : {x : Checked} {r : Refusal} → Early x → x ≡ Refused r → kind (number_of r) ≡ input
+pub early_kind : {x : Checked} {r : Refusal} → Early x → x ≡ Err r → kind (number_of r) ≡ input
 early_kind {r} passed e = let z : ◌≡◌ {A = ℕ} 0 1 = cc in absurd (omega arith)
 early_kind {r} (refused {r = s} h) e = let p : s ≡ r = cc in ap (λ (x : Refusal). kind (number_of x)) (sym p) ∙ h
 

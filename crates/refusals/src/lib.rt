@@ -1,5 +1,5 @@
-// The numbered refusals: why a question is refused, its number and its place, and which of two tests
-// is told.
+// The numbered refusals: why a question is refused, its number and its place. What a check comes to
+// is `Result<(), Refusal>`.
 #![tactic(auto)]
 
 ghost use Rattle.std.specs.Prelude.{◌≡◌};
@@ -29,80 +29,51 @@ pub enum Refusal {
     NotJoined,
 }
 
-// What a check comes to.
-#[derive(Clone, Copy)]
-pub enum Checked {
-    Passed,
-    Refused(Refusal),
-}
-
-// Document 01's number of a refusal.
-pub fn number(r: Refusal) -> u64
-    ensures { result ≡ number_of r }
-{
-    match r {
-        Refusal::JunctionFile => 1,
-        Refusal::RoadFile => 2,
-        Refusal::Battery => 3,
-        Refusal::Start => 4,
-        Refusal::NoJunction => 5,
-        Refusal::ShortList => 6,
-        Refusal::Ends(_) => 7,
-        Refusal::Consumption(_) => 8,
-        Refusal::Potential(_) => 9,
-        Refusal::MoreCharge(_) => 10,
-        Refusal::LongRoute => 11,
-        Refusal::NotRoad(_) => 12,
-        Refusal::NotHere(_) => 13,
-        Refusal::TooLow(_) => 14,
-        Refusal::Impassable(_) => 15,
-        Refusal::NeverEnough => 16,
-        Refusal::NotJoined => 17,
+impl Refusal {
+    // Document 01's number.
+    pub fn number(self) -> u64
+        ensures { result ≡ number_of self }
+    {
+        match self {
+            Refusal::JunctionFile => 1,
+            Refusal::RoadFile => 2,
+            Refusal::Battery => 3,
+            Refusal::Start => 4,
+            Refusal::NoJunction => 5,
+            Refusal::ShortList => 6,
+            Refusal::Ends(_) => 7,
+            Refusal::Consumption(_) => 8,
+            Refusal::Potential(_) => 9,
+            Refusal::MoreCharge(_) => 10,
+            Refusal::LongRoute => 11,
+            Refusal::NotRoad(_) => 12,
+            Refusal::NotHere(_) => 13,
+            Refusal::TooLow(_) => 14,
+            Refusal::Impassable(_) => 15,
+            Refusal::NeverEnough => 16,
+            Refusal::NotJoined => 17,
+        }
     }
-}
 
-// The place of the first fault, and of 10 the least start charge.
-pub fn place(r: Refusal) -> u64
-    ensures { result ≡ place_of r }
-{
-    match r {
-        Refusal::JunctionFile => 0,
-        Refusal::RoadFile => 0,
-        Refusal::Battery => 0,
-        Refusal::Start => 0,
-        Refusal::NoJunction => 0,
-        Refusal::ShortList => 0,
-        Refusal::Ends(k) => k as u64,
-        Refusal::Consumption(k) => k as u64,
-        Refusal::Potential(k) => k as u64,
-        Refusal::MoreCharge(b) => b as u64,
-        Refusal::LongRoute => 0,
-        Refusal::NotRoad(i) => i as u64,
-        Refusal::NotHere(i) => i as u64,
-        Refusal::TooLow(i) => i as u64,
-        Refusal::Impassable(i) => i as u64,
-        Refusal::NeverEnough => 0,
-        Refusal::NotJoined => 0,
+    // The place of the first fault, and of 10 the least start charge; else 0.
+    pub fn place(self) -> u64
+        ensures { result ≡ place_of self }
+    {
+        match self {
+            Refusal::Ends(k) | Refusal::Consumption(k) | Refusal::Potential(k) => k as u64,
+            Refusal::MoreCharge(b) => b as u64,
+            Refusal::NotRoad(i)
+            | Refusal::NotHere(i)
+            | Refusal::TooLow(i)
+            | Refusal::Impassable(i) => i as u64,
+            _ => 0,
+        }
     }
 }
 
 // Refused with r unless the test holds.
-pub fn unless(holds: bool, r: Refusal) -> Checked
+pub fn unless(holds: bool, r: Refusal) -> Result<(), Refusal>
     ensures { result ≡ Rattle.refusals.specs.Order.unless holds r }
 {
-    if holds {
-        Checked::Passed
-    } else {
-        Checked::Refused(r)
-    }
-}
-
-// The first fault of two.
-pub fn first(a: Checked, b: Checked) -> Checked
-    ensures { result ≡ Rattle.refusals.specs.Order.first a b }
-{
-    match a {
-        Checked::Passed => b,
-        Checked::Refused(r) => Checked::Refused(r),
-    }
+    if holds { Ok(()) } else { Err(r) }
 }

@@ -1,4 +1,5 @@
 -- A route gone along place by place: what is known where the van stands before place i, and how it goes on. Assumes nothing.
+use Rattle.std.specs.Prelude.{Err, Ok}
 use mathlib.Core.Path.{◌≡◌, refl, sym, ap, ◌∙◌}
 use mathlib.Core.List.{List, [], ◌∷◌, ◌++◌}
 use Prim.Native.Nat.{ℕ, ◌+◌, ◌-◌, ◌≤◌, ◌<◌}
@@ -15,15 +16,14 @@ use Rattle.network.specs.Files.{road_count, road_of}
 use Rattle.journeys.specs.Walks.{roads_of}
 use Rattle.refusals.specs.declared.Refusal.{Refusal}
 use Rattle.refusals.specs.declared.Refusal.TheVariants as refusal
-use Rattle.refusals.specs.declared.Checked.{Checked}
-use Rattle.refusals.specs.declared.Checked.TheVariants as checked
+use Rattle.refusals.specs.Order.{Checked}
 use Rattle.routes.specs.Places.{entry_at, stands_at, up_to, entry_fault, begin_fault, place_fault, route_fault}
 use Rattle.routes.specs.Steps.{enters}
 
 -- ---- one place
 
 -- what is entered is a road of the file
-pub is_road : (rs : List ℕ) (e i at : ℕ) → enters rs e i at ≡ checked.Passed → e < road_count rs
+pub is_road : (rs : List ℕ) (e i at : ℕ) → enters rs e i at ≡ Ok tt → e < road_count rs
 unfolding enters
 is_road rs e i at h = ltb-true _ _ (unless_passed (ltb e (road_count rs)) (refusal.NotRoad i) (first_passed _ _ h).0)
 
@@ -47,8 +47,8 @@ module _ {rs : List ℕ} {source : ℕ} {es : List ℕ} {last : ℕ → Checked}
   fault_is s h = place_is rs source es i (last i) ∙ ap (λ (v : ℕ). first (enters rs (entry_at es i) i v) (last i)) (sym s.stands) ∙ ap (λ (y : Checked). first y (last i)) h
 
   -- a place that passes: the van stands at the road's head before the next
-  pub standing_on : Standing rs source es last at i → i < length es → enters rs (entry_at es i) i at ≡ checked.Passed
-      → last i ≡ checked.Passed → Standing rs source es last (road_of rs (entry_at es i)).head (i + 1)
+  pub standing_on : Standing rs source es last at i → i < length es → enters rs (entry_at es i) i at ≡ Ok tt
+      → last i ≡ Ok tt → Standing rs source es last (road_of rs (entry_at es i)).head (i + 1)
   standing_on s h e l =
       record {
         stands = sym (ap (stands_at rs source es) (add-one i));
@@ -57,19 +57,19 @@ module _ {rs : List ℕ} {source : ℕ} {es : List ℕ} {last : ℕ → Checked}
       }
 
   -- a place where no road is entered: 12, 13
-  pub standing_refused : {q : Refusal} → Standing rs source es last at i → i < length es → enters rs (entry_at es i) i at ≡ checked.Refused q
-      → route_fault rs source es last ≡ checked.Refused q
+  pub standing_refused : {q : Refusal} → Standing rs source es last at i → i < length es → enters rs (entry_at es i) i at ≡ Err q
+      → route_fault rs source es last ≡ Err q
   standing_refused {q} s h e =
       sym s.faults ∙ from_stop (λ j. place_fault rs source es j (last j)) (length es) i q h (fault_is s e)
 
   -- a place where the last test fails: 14, 15
-  pub standing_last : {q : Refusal} → Standing rs source es last at i → i < length es → enters rs (entry_at es i) i at ≡ checked.Passed
-      → last i ≡ checked.Refused q → route_fault rs source es last ≡ checked.Refused q
+  pub standing_last : {q : Refusal} → Standing rs source es last at i → i < length es → enters rs (entry_at es i) i at ≡ Ok tt
+      → last i ≡ Err q → route_fault rs source es last ≡ Err q
   standing_last {q} s h e l =
       sym s.faults ∙ from_stop (λ j. place_fault rs source es j (last j)) (length es) i q h (fault_is s e ∙ l)
 
   -- past the last place
-  pub standing_end : Standing rs source es last at i → length es ≤ i → route_fault rs source es last ≡ checked.Passed
+  pub standing_end : Standing rs source es last at i → length es ≤ i → route_fault rs source es last ≡ Ok tt
   standing_end s h = sym s.faults ∙ from_end (λ j. place_fault rs source es j (last j)) (length es) i h
 
 pub standing_start : (rs : List ℕ) (source : ℕ) (es : List ℕ) (last : ℕ → Checked) → Standing rs source es last source 0

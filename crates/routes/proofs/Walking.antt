@@ -1,5 +1,6 @@
 -- A route is a walk from its source exactly when each of its entries is a road that begins where the van stands.
 -- Assumes nothing.
+use Rattle.std.specs.Prelude.{Ok}
 use mathlib.Core.Path.{◌≡◌}
 use mathlib.Core.List.{List, [], ◌∷◌}
 use Prim.Native.Nat.{ℕ, zero, suc, ◌<◌}
@@ -12,8 +13,7 @@ use Rattle.network.specs.Files.{road_count, road_of}
 use Rattle.journeys.specs.Walks.{Walk}
 use Rattle.walks.specs.Walk.{stay, go}
 use Rattle.refusals.specs.declared.Refusal.TheVariants as refusal
-use Rattle.refusals.specs.declared.Checked.{Checked}
-use Rattle.refusals.specs.declared.Checked.TheVariants.{Passed}
+use Rattle.refusals.specs.Order.{Checked}
 use Rattle.routes.specs.Claims.{Walks}
 use Rattle.routes.specs.Places.{entry_at, stands_at, place_fault, route_fault}
 
@@ -46,7 +46,7 @@ walk_steps (go k p e t) (suc i) h = up i (walk_steps t i (omega arith))
 -- ---- the faults
 
 module _ (rs : List ℕ) (source : ℕ) (es : List ℕ) (last : ℕ → Checked) where
-  passed_at : route_fault rs source es last ≡ Passed → (i : ℕ) → i < length es → Step rs source es i × (last i ≡ Passed)
+  passed_at : route_fault rs source es last ≡ Ok tt → (i : ℕ) → i < length es → Step rs source es i × (last i ≡ Ok tt)
   unfolding place_fault
   passed_at e i h =
       let a = first_passed _ _ (all_passed (λ j. place_fault rs source es j (last j)) (length es) e i h) in
@@ -60,17 +60,17 @@ module _ (rs : List ℕ) (source : ℕ) (es : List ℕ) (last : ℕ → Checked)
         b.1,
       )
 
-  pub fault_walks : route_fault rs source es last ≡ Passed → Walks rs source es
+  pub fault_walks : route_fault rs source es last ≡ Ok tt → Walks rs source es
   fault_walks e = steps_walk rs source es (λ i h. (passed_at e i h).0)
 
-  pub fault_last : route_fault rs source es last ≡ Passed → (i : ℕ) → i < length es → last i ≡ Passed
+  pub fault_last : route_fault rs source es last ≡ Ok tt → (i : ℕ) → i < length es → last i ≡ Ok tt
   fault_last e i h = (passed_at e i h).1
 
-  passes_at : (i : ℕ) → Step rs source es i → last i ≡ Passed → place_fault rs source es i (last i) ≡ Passed
+  passes_at : (i : ℕ) → Step rs source es i → last i ≡ Ok tt → place_fault rs source es i (last i) ≡ Ok tt
   unfolding place_fault
   passes_at i s e = simp (lt-ltb _ _ s.is_road, eq-eqb _ _ s.here, e)
 
-  pub no_fault : Walks rs source es → ((i : ℕ) → i < length es → last i ≡ Passed) → route_fault rs source es last ≡ Passed
+  pub no_fault : Walks rs source es → ((i : ℕ) → i < length es → last i ≡ Ok tt) → route_fault rs source es last ≡ Ok tt
   no_fault w l =
       none_fails (λ i. place_fault rs source es i (last i)) (length es) 0
       (λ i a b. passes_at i (walk_steps w.walk i (omega arith)) (l i (omega arith)))

@@ -1,20 +1,15 @@
 -- The faults of a given route, place by place. rs is the road file, es the route: road numbers.
-use Rattle.std.specs.Prelude.{List, ℕ, zero, suc, ◌+◌, ltb, eqb, length, get_or, take}
+use Rattle.std.specs.Prelude.{List, ℕ, zero, suc, ◌+◌, ltb, eqb, length, get_or, take, Err, None, Ok, Option, Some}
 use Rattle.battery.specs.Drive.{drive_all}
 use Rattle.battery.specs.Profile.{profile_of}
 use Rattle.battery.specs.declared.Battery.{Battery}
-use Rattle.battery.specs.declared.Passage.{Passage}
-use Rattle.battery.specs.declared.Passage.TheVariants.{Passable, Impassable}
 use Rattle.battery.specs.declared.Road.{Road}
 use Rattle.battery.specs.declared.Van.{Van}
-use Rattle.battery.specs.declared.Drove.{Drove}
-use Rattle.battery.specs.declared.Drove.TheVariants.{On, TooLow}
 use Rattle.refusals.specs.Order.{unless, first, first_from}
 use Rattle.network.specs.Files.{road_count, road_of}
 use Rattle.journeys.specs.Walks.{roads_of}
 use Rattle.refusals.specs.declared.Refusal.TheVariants as refusal
-use Rattle.refusals.specs.declared.Checked.{Checked}
-use Rattle.refusals.specs.declared.Checked.TheVariants.{Passed, Refused}
+use Rattle.refusals.specs.Order.{Checked}
 
 -- the most entries of a given route
 abbrev pub most_entries : ℕ
@@ -52,18 +47,18 @@ abbrev pub route_fault : List ℕ → ℕ → List ℕ → (ℕ → Checked) →
 route_fault rs source es last = first_from (λ i. place_fault rs source es i (last i)) (length es) 0
 
 -- 14: charge is too low for the road
-abbrev pub low_fault : ℕ → Drove → Checked
-low_fault i (On v) = Passed
-low_fault i TooLow = Refused (refusal.TooLow i)
+abbrev pub low_fault : ℕ → Option Van → Checked
+low_fault i (Some v) = Ok tt
+low_fault i None = Err (refusal.TooLow i)
 
 -- the drive by the van v from the junction source: 12, 13, 14
 abbrev pub drive_faults : List ℕ → ℕ → List ℕ → Van → Checked
 drive_faults rs source es v = route_fault rs source es (λ i. low_fault i (drive_all v (up_to rs es i)))
 
 -- 15: the route up to and with the road is impassable at every charge
-abbrev pub impassable_fault : ℕ → Passage → Checked
-impassable_fault i (Passable p) = Passed
-impassable_fault i Impassable = Refused (refusal.Impassable i)
+abbrev pub impassable_fault : ℕ → Option Profile → Checked
+impassable_fault i (Some p) = Ok tt
+impassable_fault i None = Err (refusal.Impassable i)
 
 -- the profile with the battery B: 12, 13, 15
 abbrev pub profile_faults : List ℕ → ℕ → List ℕ → Battery → Checked

@@ -1,33 +1,24 @@
 -- What the private steps of the two loops ask for and give. No promise cites this file.
-use Rattle.std.specs.Prelude.{◌≡◌, List, ℕ, ◌*◌, ◌≤◌, ◌<◌, length}
+use Rattle.std.specs.Prelude.{◌≡◌, List, ℕ, ◌*◌, ◌≤◌, ◌<◌, length, Err, None, Ok, Option, Result, Some}
 use Rattle.numbers.specs.Signed.{draw, gain}
 use Rattle.battery.specs.Drive.{drive, drive_all}
 use Rattle.battery.specs.Profile.{followed_by, one_road, profile_of}
 use Rattle.battery.specs.Ready.{Ranged, Kept}
 use Rattle.battery.specs.Rule.{most_battery, most_consumption}
 use Rattle.battery.specs.declared.Battery.{Battery}
-use Rattle.battery.specs.declared.Passage.{Passage}
-use Rattle.battery.specs.declared.Passage.TheVariants as passage
 use Rattle.battery.specs.declared.Profile.{Profile}
 use Rattle.battery.specs.declared.Road.{Road}
 use Rattle.battery.specs.declared.Van.{Van}
-use Rattle.battery.specs.declared.Drove.{Drove}
-use Rattle.battery.specs.declared.Drove.TheVariants as drove
 use Rattle.refusals.specs.Order.{first}
 use Rattle.network.specs.Files.{road_count, road_of}
 use Rattle.journeys.specs.Walks.{roads_of}
 use Rattle.refusals.specs.declared.Refusal.TheVariants as refusal
-use Rattle.refusals.specs.declared.Checked.{Checked}
-use Rattle.refusals.specs.declared.Checked.TheVariants as checked
+use Rattle.refusals.specs.Order.{Checked}
 use Rattle.routes.specs.Places.{most_entries, entry_fault, begin_fault, drive_faults, profile_faults}
 use Rattle.routes.specs.declared.DriveStep.{DriveStep}
 use Rattle.routes.specs.declared.DriveStep.TheVariants as step
-use Rattle.routes.specs.declared.Driven.{Driven}
-use Rattle.routes.specs.declared.Driven.TheVariants as driven
 use Rattle.routes.specs.declared.ProfileStep.{ProfileStep}
 use Rattle.routes.specs.declared.ProfileStep.TheVariants as profile_step
-use Rattle.routes.specs.declared.Profiled.{Profiled}
-use Rattle.routes.specs.declared.Profiled.TheVariants as profiled
 
 -- every record's consumption lies in its range
 pub record RangedRoads (rs : List ℕ) : Type 0 where
@@ -53,13 +44,13 @@ pub record PlaceAsks (rs : List ℕ) (i : ℕ) (v : Van) : Type 0 where
   pub place_lt : i < most_entries
   pub bounded : Bounded i v
 
-abbrev pub on_drove : Drove → Road → ℕ → DriveStep
-on_drove (drove.On w) r i = step.On r.head w
-on_drove drove.TooLow r i = step.Refused (refusal.TooLow i)
+abbrev pub on_drove : Option Van → Road → ℕ → DriveStep
+on_drove (Some w) r i = step.On r.head w
+on_drove None r i = step.Refused (refusal.TooLow i)
 
 abbrev pub on_entered : Checked → Road → Van → ℕ → DriveStep
-on_entered checked.Passed r v i = on_drove (drive v r) r i
-on_entered (checked.Refused q) r v i = step.Refused q
+on_entered (Ok tt) r v i = on_drove (drive v r) r i
+on_entered (Err q) r v i = step.Refused q
 
 unfoldable pub drive_place : List ℕ → ℕ → ℕ → ℕ → Van → DriveStep
 drive_place rs e i at v = on_entered (enters rs e i at) (road_of rs e) v i
@@ -69,10 +60,10 @@ pub record DriveAsks (rs es : List ℕ) (v : Van) : Type 0 where
   pub entries_le : length es ≤ most_entries
   pub bounded : Bounded 0 v
 
-abbrev pub DriveKeeps : List ℕ → List ℕ → ℕ → Van → Driven → Type 0
-DriveKeeps rs es source v (driven.Arrived w) =
-    (drive_faults rs source es v ≡ checked.Passed) × (drive_all v (roads_of rs es) ≡ drove.On w)
-DriveKeeps rs es source v (driven.Refused r) = drive_faults rs source es v ≡ checked.Refused r
+abbrev pub DriveKeeps : List ℕ → List ℕ → ℕ → Van → Result Van Refusal → Type 0
+DriveKeeps rs es source v (Ok w) =
+    (drive_faults rs source es v ≡ Ok tt) × (drive_all v (roads_of rs es) ≡ Some w)
+DriveKeeps rs es source v (Err r) = drive_faults rs source es v ≡ Err r
 
 -- ---- the profile
 
@@ -88,13 +79,13 @@ pub record ExtendAsks (rs : List ℕ) (i : ℕ) (B : Battery) (p : Profile) : Ty
   pub place_lt : i < most_entries
   pub gathered : Gathered B i p
 
-abbrev pub on_passage : Passage → Road → ℕ → ProfileStep
-on_passage (passage.Passable p) r i = profile_step.On r.head p
-on_passage passage.Impassable r i = profile_step.Refused (refusal.Impassable i)
+abbrev pub on_passage : Option Profile → Road → ℕ → ProfileStep
+on_passage (Some p) r i = profile_step.On r.head p
+on_passage None r i = profile_step.Refused (refusal.Impassable i)
 
 abbrev pub extend_entered : Checked → Road → Battery → Profile → ℕ → ProfileStep
-extend_entered checked.Passed r B p i = on_passage (followed_by (passage.Passable p) (one_road B r)) r i
-extend_entered (checked.Refused q) r B p i = profile_step.Refused q
+extend_entered (Ok tt) r B p i = on_passage (followed_by (Some p) (one_road B r)) r i
+extend_entered (Err q) r B p i = profile_step.Refused q
 
 unfoldable pub profile_place : List ℕ → ℕ → ℕ → ℕ → Battery → Profile → ProfileStep
 profile_place rs e i at B p = extend_entered (enters rs e i at) (road_of rs e) B p i
@@ -104,7 +95,7 @@ pub record ProfileAsks (rs es : List ℕ) (B : Battery) : Type 0 where
   pub entries_le : length es ≤ most_entries
   pub battery_le : B.size ≤ most_battery
 
-abbrev pub ProfileKeeps : List ℕ → List ℕ → ℕ → Battery → Profiled → Type 0
-ProfileKeeps rs es source B (profiled.Known p) =
-    (profile_faults rs source es B ≡ checked.Passed) × (profile_of B (roads_of rs es) ≡ passage.Passable p)
-ProfileKeeps rs es source B (profiled.Refused r) = profile_faults rs source es B ≡ checked.Refused r
+abbrev pub ProfileKeeps : List ℕ → List ℕ → ℕ → Battery → Result Profile Refusal → Type 0
+ProfileKeeps rs es source B (Ok p) =
+    (profile_faults rs source es B ≡ Ok tt) × (profile_of B (roads_of rs es) ≡ Some p)
+ProfileKeeps rs es source B (Err r) = profile_faults rs source es B ≡ Err r

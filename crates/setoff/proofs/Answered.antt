@@ -1,4 +1,5 @@
 -- From what set off gives back to what is written. Assumes nothing.
+use Rattle.std.specs.Prelude.{Err, Ok}
 use mathlib.Core.Path.{◌≡◌, ap, ◌∙◌}
 use mathlib.Core.List.{List}
 use Prim.Native.Nat.{ℕ, ◌≤◌}
@@ -8,8 +9,7 @@ use lib.ListN.{length, take}
 use Rattle.refusals.proofs.Early.{number_pos}
 use Rattle.network.specs.Files.{junctions, most_junctions}
 use Rattle.refusals.specs.Refusals.{number_of}
-use Rattle.refusals.specs.declared.Checked.{Checked}
-use Rattle.refusals.specs.declared.Checked.TheVariants as checked
+use Rattle.refusals.specs.Order.{Checked}
 use Rattle.refusals.specs.declared.Refusal.{Refusal}
 use Rattle.promises.specs.Given.{check_numbers}
 use Rattle.promises.specs.declared.CheckNumbers.{CheckNumbers}
@@ -27,7 +27,7 @@ few (SetsOff.refused r f) z = let p = number_pos r in absurd (omega arith)
 few {ns} {rs} {q} {list} (SetsOff.known f n) z = (set_off_passed ns rs q (length list) f).files.few
 
 module _ {ns rs : List ℕ} {list xs : List ℤ} {q : SetOffQuestion} (answer : Checked) (p : SetsOff ns rs q list (check_numbers answer) xs) where
-  pub numbers_fit : answer ≡ checked.Passed → junctions ns ≤ most_junctions
+  pub numbers_fit : answer ≡ Ok tt → junctions ns ≤ most_junctions
   numbers_fit e = few p (ap (λ (a : Checked). (check_numbers a).number) e)
 
   -- the text, by the numbers that the answer gives for the numbers ms of the line
@@ -35,12 +35,12 @@ module _ {ns rs : List ℕ} {list xs : List ℤ} {q : SetOffQuestion} (answer : 
     writes : Writes ms ns rs (set_off_text given (junctions ns) xs)
     writes = let p' = rw asks at p in Writes.outcome list xs given long (rw g p')
 
-    pub writes_charges : answer ≡ checked.Passed → Writes ms ns rs (signed_lines (take (junctions ns) xs))
+    pub writes_charges : answer ≡ Ok tt → Writes ms ns rs (signed_lines (take (junctions ns) xs))
     writes_charges e =
         let number = ap (λ (a : CheckNumbers). a.number) (g ∙ ap check_numbers e) in
         writes_success (Writes ms ns rs) given.number given.place _ writes number
 
-    pub writes_refusal : {r : Refusal} → answer ≡ checked.Refused r → Writes ms ns rs (refused_text given.number given.place)
+    pub writes_refusal : {r : Refusal} → answer ≡ Err r → Writes ms ns rs (refused_text given.number given.place)
     writes_refusal {r} e =
         let number : given.number ≡ number_of r = ap (λ (a : CheckNumbers). a.number) (g ∙ ap check_numbers e) in
         writes_refused (Writes ms ns rs) given.number given.place _ writes (omega (arith, number_pos r))

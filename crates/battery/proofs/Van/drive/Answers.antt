@@ -1,8 +1,7 @@
 -- The naturals that the code works with are those of `goes` and `stays`.
-use Rattle.std.proofs.Common.{arith, ◌≡◌, ◌-◌, ◌+◌, ◌≤◌, sym, ap, ◌∙◌}
+use Rattle.std.proofs.Common.{arith, ◌≡◌, ◌-◌, ◌+◌, ◌≤◌, sym, ap, ◌∙◌, Some}
 use Rattle.numbers.specs.Signed.{draw, gain}
 use Rattle.battery.specs.Drive.{driven}
-use Rattle.battery.specs.declared.Drove.TheVariants.{On}
 use Rattle.battery.proofs.Drive.{goes, stays}
 use Rattle.battery.proofs.Next.{used_back}
 use Rattle.battery.proofs.Rule.{left_is}
@@ -22,10 +21,10 @@ returns c =
     let f = c.gained-gives.ensures ∙ ap gain (used_back c.requires.ranged) in
     let h : draw r.consumption ≤ v.charge = omega arith in
     let l = left_is v.charge r.consumption in
-    let x = c.above-over.result in
+    let x = c.saturating_sub-over.result in
     let p0 : v.charge - c.drawn-takes.result + c.gained-gives.result - x ≡ (driven v r).charge = omega arith in
     let p1 : v.drawn + c.drawn-takes.result ≡ v.drawn + draw r.consumption = omega arith in
     let p2 : v.recovered + c.gained-gives.result ≡ v.recovered + gain r.consumption = omega arith in
     let p3 : v.spilled + x ≡ (driven v r).spilled = omega arith in
-    ap On (λ i. record { battery = v.battery; charge = p0 i; drawn = p1 i; recovered = p2 i; spilled = p3 i })
+    ap Some (λ i. record { battery = v.battery; charge = p0 i; drawn = p1 i; recovered = p2 i; spilled = p3 i })
     ∙ sym (goes v r h)
