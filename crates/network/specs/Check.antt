@@ -1,9 +1,8 @@
 -- The tests of the two files and of their records, in order.
 use Rattle.std.specs.Prelude.{◌&&◌, List, ℕ, ltb}
 use Rattle.battery.specs.declared.Road.{Road}
-use Rattle.refusals.specs.Order.{unless, first, first_from}
+use Rattle.refusals.specs.Order.{unless, first, first_from, Checked}
 use Rattle.refusals.specs.declared.Refusal.TheVariants.{JunctionFile, RoadFile, Ends, Consumption, Potential}
-use Rattle.refusals.specs.Order.{Checked}
 use Rattle.network.specs.Files.{junctions, road_count, road_of, potential, junction_file, road_file, in_range, passes}
 
 -- 1, 2: the sizes of the two files

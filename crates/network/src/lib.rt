@@ -7,7 +7,7 @@ ghost use Rattle.network.specs.Files.{junctions, road_count, road_of, potential,
 ghost use Rattle.network.specs.Check.{files_fault, road_fault, potential_fault, record_fault, records_fault, check_fault};
 
 use battery::Road;
-use refusals::{Checked, Refusal};
+use refusals::Refusal;
 
 // The records of the two files, and how many there may be.
 pub const JUNCTION_BYTES: usize = 4;
@@ -20,61 +20,50 @@ pub const MOST_ROADS: usize = 8192;
 
 // Network check: 1, 2, then the records.
 #[tactic(auto, unfolding(crate::specs::Check::check_fault))]
-pub fn check(nodes: &[u8], roads: &[u8]) -> Checked
+pub fn check(nodes: &[u8], roads: &[u8]) -> Result<(), Refusal>
     ensures { result ≡ check_fault nodes.now roads.now }
 {
-    let files = check_files(nodes, roads);
-    if let Checked::Refused(r) = files {
-        return Checked::Refused(r);
-    }
+    check_files(nodes, roads)?;
     check_records(nodes, roads)
 }
 
 // The sizes of the two files: 1, 2.
-pub fn check_files(nodes: &[u8], roads: &[u8]) -> Checked
+pub fn check_files(nodes: &[u8], roads: &[u8]) -> Result<(), Refusal>
     ensures { result ≡ files_fault nodes.now roads.now }
 {
-    let junctions = refusals::unless(is_junction_file(nodes), Refusal::JunctionFile);
-    let records = refusals::unless(is_road_file(roads), Refusal::RoadFile);
-    refusals::first(junctions, records)
+    refusals::unless(is_junction_file(nodes), Refusal::JunctionFile)?;
+    refusals::unless(is_road_file(roads), Refusal::RoadFile)
 }
 
 // 1 to 2,048 whole records.
 fn is_junction_file(nodes: &[u8]) -> bool
     ensures { result ≡ junction_file nodes.now }
 {
-    if nodes.len() == 0 {
-        return false;
-    }
-    if nodes.len() % JUNCTION_BYTES != 0 {
-        return false;
-    }
-    nodes.len() / JUNCTION_BYTES <= MOST_JUNCTIONS
+    nodes.len() > 0
+        && nodes.len() % JUNCTION_BYTES == 0
+        && nodes.len() / JUNCTION_BYTES <= MOST_JUNCTIONS
 }
 
 // 0 to 8,192 whole records.
 fn is_road_file(roads: &[u8]) -> bool
     ensures { result ≡ road_file roads.now }
 {
-    if roads.len() % ROAD_BYTES != 0 {
-        return false;
-    }
-    roads.len() / ROAD_BYTES <= MOST_ROADS
+    roads.len() % ROAD_BYTES == 0 && roads.len() / ROAD_BYTES <= MOST_ROADS
 }
 
-// The records in file order; the first that fails stops the check.
-pub fn check_records(nodes: &[u8], roads: &[u8]) -> Checked
+// The records in file order; the first that fails stops the check. Document 01 asks for this form, a
+// loop that yields the fault by break.
+pub fn check_records(nodes: &[u8], roads: &[u8]) -> Result<(), Refusal>
     ensures { result ≡ records_fault nodes.now roads.now }
 {
     let count = roads.len() / ROAD_BYTES;
     let mut k = 0;
     loop {
         if count <= k {
-            break Checked::Passed;
+            break Ok(());
         }
-        let checked = check_record(nodes, k, road_at(roads, k));
-        if let Checked::Refused(r) = checked {
-            break Checked::Refused(r);
+        if let Err(r) = check_record(nodes, k, road_at(roads, k)) {
+            break Err(r);
         }
         k += 1;
     }
@@ -94,45 +83,39 @@ pub fn road_at(roads: &[u8], k: usize) -> Road
 }
 
 // One record: 7, 8, 9.
-fn check_record(nodes: &[u8], k: usize, road: Road) -> Checked
+fn check_record(nodes: &[u8], k: usize, road: Road) -> Result<(), Refusal>
     ensures { result ≡ record_fault nodes.now k road }
 {
-    let checked = check_road(nodes.len() / JUNCTION_BYTES, k, road);
-    if let Checked::Refused(r) = checked {
-        return Checked::Refused(r);
-    }
+    check_road(nodes.len() / JUNCTION_BYTES, k, road)?;
     check_potential(nodes, k, road)
 }
 
 // Record k's ends among `count` junctions, and its consumption: 7, 8.
 #[tactic(auto, unfolding(crate::specs::Check::road_fault))]
-pub fn check_road(count: usize, k: usize, road: Road) -> Checked
+pub fn check_road(count: usize, k: usize, road: Road) -> Result<(), Refusal>
     ensures { result ≡ road_fault count k road }
 {
-    if count <= road.tail as usize {
-        return Checked::Refused(Refusal::Ends(k));
-    }
-    if count <= road.head as usize {
-        return Checked::Refused(Refusal::Ends(k));
+    if count <= road.tail as usize || count <= road.head as usize {
+        return Err(Refusal::Ends(k));
     }
     if !in_range(road.consumption) {
-        return Checked::Refused(Refusal::Consumption(k));
+        return Err(Refusal::Consumption(k));
     }
-    Checked::Passed
+    Ok(())
 }
 
 // Record k's sum after potentials: 9.
 #[tactic(auto, unfolding(crate::specs::Check::potential_fault))]
-pub fn check_potential(nodes: &[u8], k: usize, road: Road) -> Checked
+pub fn check_potential(nodes: &[u8], k: usize, road: Road) -> Result<(), Refusal>
     requires { (road.tail < junctions nodes.now) × (road.head < junctions nodes.now) }
     ensures { result ≡ potential_fault nodes.now k road }
 {
     let tail = potential_at(nodes, road.tail as usize);
     let head = potential_at(nodes, road.head as usize);
     if !road_passes(road.consumption, tail, head) {
-        return Checked::Refused(Refusal::Potential(k));
+        return Err(Refusal::Potential(k));
     }
-    Checked::Passed
+    Ok(())
 }
 
 // The potential of junction v.
@@ -146,11 +129,7 @@ pub fn potential_at(nodes: &[u8], v: usize) -> i32
 fn in_range(consumption: i32) -> bool
     ensures { result ≡ in_range consumption }
 {
-    if battery::LEAST_CONSUMPTION <= consumption {
-        consumption <= battery::MOST_CONSUMPTION
-    } else {
-        false
-    }
+    (battery::LEAST_CONSUMPTION..=battery::MOST_CONSUMPTION).contains(&consumption)
 }
 
 fn road_passes(consumption: i32, tail: i32, head: i32) -> bool

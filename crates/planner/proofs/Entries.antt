@@ -8,9 +8,8 @@ use native.Mathlib.Omega.{arith}
 use lib.IntN.{ℤ}
 use lib.ListN.{length}
 use Rattle.numbers.specs.Signed.{draw}
-use Rattle.refusals.specs.Order.{first}
+use Rattle.refusals.specs.Order.{first, Checked}
 use Rattle.refusals.specs.declared.Refusal.{Refusal}
-use Rattle.refusals.specs.Order.{Checked}
 use Rattle.battery.specs.Drive.{fresh}
 use Rattle.network.proofs.Records.{all_ranged}
 use Rattle.network.specs.Check.{records_fault}

@@ -14,12 +14,11 @@ use Rattle.battery.specs.Claims.{Rises}
 use Rattle.battery.specs.Drive.{drive_all}
 use Rattle.battery.specs.declared.Van.{Van}
 use Rattle.refusals.proofs.Early.{Early, kind, early_kind, number_pos}
-use Rattle.refusals.specs.Order.{first}
+use Rattle.refusals.specs.Order.{first, Checked}
 use Rattle.network.specs.Check.{records_fault}
 use Rattle.refusals.specs.Refusals.{number_of}
 use Rattle.journeys.specs.Walks.{roads_of}
 use Rattle.refusals.specs.declared.Refusal.{Refusal}
-use Rattle.refusals.specs.Order.{Checked}
 use Rattle.routes.proofs.Low.{low_route}
 use Rattle.routes.specs.Places.{drive_faults}
 use Rattle.promises.specs.Claims.{NoLess, FixedRoute}

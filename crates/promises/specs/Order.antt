@@ -3,8 +3,7 @@
 use Rattle.std.specs.Prelude.{Bool, ◌&&◌, List, ℕ, ◌-◌, leb, ℤ, pos, length}
 use Rattle.std.specs.Int.Signed.{le_z}
 use Rattle.numbers.specs.Signed.{draw}
-use Rattle.refusals.specs.Order.{unless, first}
-use Rattle.refusals.specs.Order.{Checked}
+use Rattle.refusals.specs.Order.{unless, first, Checked}
 use Rattle.refusals.specs.declared.Refusal.TheVariants as refusal
 use Rattle.battery.specs.Drive.{fresh}
 use Rattle.battery.specs.Rule.{most_battery}

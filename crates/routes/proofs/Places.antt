@@ -11,12 +11,11 @@ use lib.ListN.{length, take, drop, take-append-drop}
 use lib.Seq.{take-suc, take_all}
 use Rattle.battery.specs.declared.Road.{Road}
 use Rattle.refusals.proofs.Faults.{first_assoc, first_passed, unless_passed, from_go, from_stop, from_end}
-use Rattle.refusals.specs.Order.{first, first_from}
+use Rattle.refusals.specs.Order.{first, first_from, Checked}
 use Rattle.network.specs.Files.{road_count, road_of}
 use Rattle.journeys.specs.Walks.{roads_of}
 use Rattle.refusals.specs.declared.Refusal.{Refusal}
 use Rattle.refusals.specs.declared.Refusal.TheVariants as refusal
-use Rattle.refusals.specs.Order.{Checked}
 use Rattle.routes.specs.Places.{entry_at, stands_at, up_to, entry_fault, begin_fault, place_fault, route_fault}
 use Rattle.routes.specs.Steps.{enters}
 

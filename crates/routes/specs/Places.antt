@@ -5,11 +5,10 @@ use Rattle.battery.specs.Profile.{profile_of}
 use Rattle.battery.specs.declared.Battery.{Battery}
 use Rattle.battery.specs.declared.Road.{Road}
 use Rattle.battery.specs.declared.Van.{Van}
-use Rattle.refusals.specs.Order.{unless, first, first_from}
+use Rattle.refusals.specs.Order.{unless, first, first_from, Checked}
 use Rattle.network.specs.Files.{road_count, road_of}
 use Rattle.journeys.specs.Walks.{roads_of}
 use Rattle.refusals.specs.declared.Refusal.TheVariants as refusal
-use Rattle.refusals.specs.Order.{Checked}
 
 -- the most entries of a given route
 abbrev pub most_entries : ℕ

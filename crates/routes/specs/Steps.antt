@@ -9,11 +9,10 @@ use Rattle.battery.specs.declared.Battery.{Battery}
 use Rattle.battery.specs.declared.Profile.{Profile}
 use Rattle.battery.specs.declared.Road.{Road}
 use Rattle.battery.specs.declared.Van.{Van}
-use Rattle.refusals.specs.Order.{first}
+use Rattle.refusals.specs.Order.{first, Checked}
 use Rattle.network.specs.Files.{road_count, road_of}
 use Rattle.journeys.specs.Walks.{roads_of}
 use Rattle.refusals.specs.declared.Refusal.TheVariants as refusal
-use Rattle.refusals.specs.Order.{Checked}
 use Rattle.routes.specs.Places.{most_entries, entry_fault, begin_fault, drive_faults, profile_faults}
 use Rattle.routes.specs.declared.DriveStep.{DriveStep}
 use Rattle.routes.specs.declared.DriveStep.TheVariants as step

@@ -16,8 +16,8 @@ returns-then-count-k c =
     let a = c.args in
     sym (from_end (faults a.nodes.now a.roads.now) (road_count a.roads.now) c.loop-k.k c.if-count-k.true) ∙ c.loop-k.invariant.1
 
-pub returns-in-Refused : goal.returns-in-Refused
-returns-in-Refused c =
+pub returns-in-Err : goal.returns-in-Err
+returns-in-Err c =
     let a = c.args in
-    let e = ap (record_fault a.nodes.now c.loop-k.k) (sym c.road_at.ensures) ∙ sym c.in-Refused.ensures in
+    let e = ap (record_fault a.nodes.now c.loop-k.k) (sym c.road_at.ensures) ∙ sym c.in-Err.ensures in
     sym (from_stop (faults a.nodes.now a.roads.now) (road_count a.roads.now) c.loop-k.k _ (omega arith) e) ∙ c.loop-k.invariant.1

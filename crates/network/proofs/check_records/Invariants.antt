@@ -1,7 +1,6 @@
 -- The check from record k on comes to what the whole check comes to.
 use Rattle.std.proofs.Common.{ℕ, List, ◌-◌, ◌≡◌, ◌≤◌}
-use Rattle.refusals.specs.Order.{first_from}
-use Rattle.refusals.specs.Order.{Checked}
+use Rattle.refusals.specs.Order.{first_from, Checked}
 use Rattle.network.specs.Check.{record_fault, records_fault}
 use Rattle.network.specs.Files.{road_of}
 use Rattle.network.proofs.check_records.Given as goal
