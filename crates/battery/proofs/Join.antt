@@ -94,3 +94,7 @@ profile_keeps B (r ∷ rs) = followed_keeps B (one_road B r) (profile_of B rs) (
 
 pub profile_kept : (B : Battery) (rs : List Road) {p : Profile} → profile_of B rs ≡ Some p → Kept B p
 profile_kept B rs e = subst (Keeps B) e (profile_keeps B rs)
+
+-- a route that goes on by one road
+pub extended_kept : (B : Battery) (p : Profile) (r : Road) {q : Profile} → Kept B p → followed_by (Some p) (one_road B r) ≡ Some q → Kept B q
+extended_kept B p r k e = subst (Keeps B) e (followed_keeps B (Some p) (one_road B r) k (road_keeps B r))

@@ -23,6 +23,7 @@ use Rattle.reading.proofs.Laws.{step_of_le, after_le}
 use Rattle.reading.proofs.Net.{walk_back, walk_forth}
 use Rattle.reading.proofs.StepBackward.{backward_capped}
 use Rattle.reading.proofs.StepForward.{forward_capped}
+use Rattle.battery.specs.declared.Van.{Van}
 
 -- ---- one road
 

@@ -1,6 +1,6 @@
 mod Places
-mod Driving
-mod Profiling
+mod Following
+mod Profiles
 mod Walking
 pub mod Exactly
 pub mod Low

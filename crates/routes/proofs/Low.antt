@@ -11,7 +11,7 @@ use Rattle.battery.proofs.Drive.{drive_all_append}
 use Rattle.battery.specs.Drive.{drive_all}
 use Rattle.battery.specs.declared.Van.{Van}
 use Rattle.refusals.proofs.Faults.{from_found}
-use Rattle.refusals.specs.Order.{unless, first}
+use Rattle.refusals.specs.Order.{Checked, unless, first}
 use Rattle.network.specs.Files.{road_count, road_of}
 use Rattle.refusals.specs.Refusals.{number_of}
 use Rattle.journeys.specs.Walks.{roads_of}
@@ -20,7 +20,7 @@ use Rattle.refusals.specs.declared.Refusal.TheVariants as refusal
 use Rattle.routes.specs.Places.{entry_at, stands_at, up_to, place_fault, low_fault, drive_faults}
 use Rattle.routes.proofs.Places.{split}
 
-clash : {X : Type 0} {r s : Refusal} → number_of r ≡ 14 → (number_of s ≡ 14 → ⊥) → Err s ≡ Err r → X
+clash : {X : Type 0} {r s : Refusal} → number_of r ≡ 14 → (number_of s ≡ 14 → ⊥) → ◌≡◌ {A = Checked} (Err s) (Err r) → X
 clash {r} {s} n d e = let p : s ≡ r = cc in absurd (d (ap number_of p ∙ n))
 
 -- 14 is the fault of the charge

@@ -1,3 +1,5 @@
 pub mod Places
 pub mod Claims
 pub mod Steps
+pub mod Gauges
+pub mod Laws

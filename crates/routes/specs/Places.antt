@@ -8,7 +8,9 @@ use Rattle.battery.specs.declared.Van.{Van}
 use Rattle.refusals.specs.Order.{unless, first, first_from, Checked}
 use Rattle.network.specs.Files.{road_count, road_of}
 use Rattle.journeys.specs.Walks.{roads_of}
+use Rattle.refusals.specs.declared.Refusal.{Refusal}
 use Rattle.refusals.specs.declared.Refusal.TheVariants as refusal
+use Rattle.battery.specs.declared.Profile.{Profile}
 
 -- the most entries of a given route
 abbrev pub most_entries : ℕ
@@ -45,10 +47,14 @@ place_fault rs source es i last =
 abbrev pub route_fault : List ℕ → ℕ → List ℕ → (ℕ → Checked) → Checked
 route_fault rs source es last = first_from (λ i. place_fault rs source es i (last i)) (length es) 0
 
+-- refused with q where there is none
+abbrev pub stopped : {A : Type 0} → Refusal → Option A → Checked
+stopped q (Some a) = Ok tt
+stopped q None = Err q
+
 -- 14: charge is too low for the road
 abbrev pub low_fault : ℕ → Option Van → Checked
-low_fault i (Some v) = Ok tt
-low_fault i None = Err (refusal.TooLow i)
+low_fault i = stopped (refusal.TooLow i)
 
 -- the drive by the van v from the junction source: 12, 13, 14
 abbrev pub drive_faults : List ℕ → ℕ → List ℕ → Van → Checked
@@ -56,8 +62,7 @@ drive_faults rs source es v = route_fault rs source es (λ i. low_fault i (drive
 
 -- 15: the route up to and with the road is impassable at every charge
 abbrev pub impassable_fault : ℕ → Option Profile → Checked
-impassable_fault i (Some p) = Ok tt
-impassable_fault i None = Err (refusal.Impassable i)
+impassable_fault i = stopped (refusal.Impassable i)
 
 -- the profile with the battery B: 12, 13, 15
 abbrev pub profile_faults : List ℕ → ℕ → List ℕ → Battery → Checked

@@ -1,23 +1,18 @@
 -- What the private steps of the two loops ask for and give. No promise cites this file.
-use Rattle.std.specs.Prelude.{◌≡◌, List, ℕ, ◌*◌, ◌≤◌, ◌<◌, length, Err, None, Ok, Option, Result, Some}
+use Rattle.std.specs.Prelude.{◌≡◌, List, ℕ, ◌*◌, ◌≤◌, ◌<◌, length, Err, Ok, Result, Some}
 use Rattle.numbers.specs.Signed.{draw, gain}
-use Rattle.battery.specs.Drive.{drive, drive_all}
-use Rattle.battery.specs.Profile.{followed_by, one_road, profile_of}
+use Rattle.battery.specs.Drive.{drive_all}
+use Rattle.battery.specs.Profile.{profile_of}
 use Rattle.battery.specs.Ready.{Ranged, Kept}
 use Rattle.battery.specs.Rule.{most_battery, most_consumption}
 use Rattle.battery.specs.declared.Battery.{Battery}
 use Rattle.battery.specs.declared.Profile.{Profile}
-use Rattle.battery.specs.declared.Road.{Road}
 use Rattle.battery.specs.declared.Van.{Van}
 use Rattle.refusals.specs.Order.{first, Checked}
 use Rattle.network.specs.Files.{road_count, road_of}
 use Rattle.journeys.specs.Walks.{roads_of}
-use Rattle.refusals.specs.declared.Refusal.TheVariants as refusal
 use Rattle.routes.specs.Places.{most_entries, entry_fault, begin_fault, drive_faults, profile_faults}
-use Rattle.routes.specs.declared.DriveStep.{DriveStep}
-use Rattle.routes.specs.declared.DriveStep.TheVariants as step
-use Rattle.routes.specs.declared.ProfileStep.{ProfileStep}
-use Rattle.routes.specs.declared.ProfileStep.TheVariants as profile_step
+use Rattle.refusals.specs.declared.Refusal.{Refusal}
 
 -- every record's consumption lies in its range
 pub record RangedRoads (rs : List ℕ) : Type 0 where
@@ -38,22 +33,6 @@ pub record Bounded (i : ℕ) (v : Van) : Type 0 where
   pub recovered_le : v.recovered ≤ i * most_consumption
   pub spilled_le : v.spilled ≤ i * most_consumption
 
-pub record PlaceAsks (rs : List ℕ) (i : ℕ) (v : Van) : Type 0 where
-  pub roads_ranged : RangedRoads rs
-  pub place_lt : i < most_entries
-  pub bounded : Bounded i v
-
-abbrev pub on_drove : Option Van → Road → ℕ → DriveStep
-on_drove (Some w) r i = step.On r.head w
-on_drove None r i = step.Refused (refusal.TooLow i)
-
-abbrev pub on_entered : Checked → Road → Van → ℕ → DriveStep
-on_entered (Ok tt) r v i = on_drove (drive v r) r i
-on_entered (Err q) r v i = step.Refused q
-
-unfoldable pub drive_place : List ℕ → ℕ → ℕ → ℕ → Van → DriveStep
-drive_place rs e i at v = on_entered (enters rs e i at) (road_of rs e) v i
-
 pub record DriveAsks (rs es : List ℕ) (v : Van) : Type 0 where
   pub roads_ranged : RangedRoads rs
   pub entries_le : length es ≤ most_entries
@@ -72,22 +51,6 @@ pub record Gathered (B : Battery) (i : ℕ) (p : Profile) : Type 0 where
   pub kept : Kept B p
   pub draw_le : draw p.sum ≤ i * most_consumption
   pub gain_le : gain p.sum ≤ i * most_consumption
-
-pub record ExtendAsks (rs : List ℕ) (i : ℕ) (B : Battery) (p : Profile) : Type 0 where
-  pub roads_ranged : RangedRoads rs
-  pub place_lt : i < most_entries
-  pub gathered : Gathered B i p
-
-abbrev pub on_passage : Option Profile → Road → ℕ → ProfileStep
-on_passage (Some p) r i = profile_step.On r.head p
-on_passage None r i = profile_step.Refused (refusal.Impassable i)
-
-abbrev pub extend_entered : Checked → Road → Battery → Profile → ℕ → ProfileStep
-extend_entered (Ok tt) r B p i = on_passage (followed_by (Some p) (one_road B r)) r i
-extend_entered (Err q) r B p i = profile_step.Refused q
-
-unfoldable pub profile_place : List ℕ → ℕ → ℕ → ℕ → Battery → Profile → ProfileStep
-profile_place rs e i at B p = extend_entered (enters rs e i at) (road_of rs e) B p i
 
 pub record ProfileAsks (rs es : List ℕ) (B : Battery) : Type 0 where
   pub roads_ranged : RangedRoads rs
