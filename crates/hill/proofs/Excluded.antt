@@ -11,7 +11,7 @@ use Rattle.battery.specs.Drive.{driven, drive, drive_all}
 use Rattle.battery.specs.declared.Van.{Van}
 use Rattle.refusals.proofs.Early.{number_pos}
 use Rattle.journeys.specs.Walks.{roads_of}
-use Rattle.promises.specs.Given.{plan_numbers}
+use Rattle.promises.specs.Given.{plan_numbers, routed}
 use Rattle.promises.specs.declared.PlanNumbers.{PlanNumbers}
 use Rattle.hill.specs.Broken.{RefusesAll, OneFixedArrival, NeverWrites, only_subtracts, OnlySubtracts, InventsSpill}
 use Rattle.hill.specs.Hill.{roads, sized, asks}
@@ -29,7 +29,7 @@ unfolding drive_all drive driven
 best_900 = better to_3 hill_3 refl refl tt
 
 only_900 : (list : List ℕ) → 3 ≤ length list
-    → Only (asks 1000 900 0 3) list (plan_numbers (Ok ROUTE 3 van_900)) (0 ∷ 1 ∷ 3 ∷ drop 3 list)
+    → Only (asks 1000 900 0 3) list (plan_numbers (routed 3 van_900)) (0 ∷ 1 ∷ 3 ∷ drop 3 list)
 only_900 list h = best_only best_900 list h
 
 pub refuses_all : RefusesAll

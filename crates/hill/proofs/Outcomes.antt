@@ -20,7 +20,7 @@ use Rattle.journeys.specs.Reasons.{Reason}
 use Rattle.journeys.specs.Walks.{roads_of}
 use Rattle.refusals.specs.declared.Refusal.{Refusal}
 use Rattle.promises.proofs.OnePlan.{one_plan}
-use Rattle.promises.specs.Given.{plan_numbers}
+use Rattle.promises.specs.Given.{plan_numbers, routed}
 use Rattle.promises.specs.Order.{is_battery, is_start, battery_of, plan_van, plan_fault}
 use Rattle.promises.specs.Promises.{Arrives, Most, NoWalk, Plans}
 use Rattle.promises.specs.declared.PlanNumbers.{PlanNumbers}
@@ -85,18 +85,18 @@ module _ {q : PlanQuestion} {best : List ℕ} {v : Van} (b : BestBy q best v) wh
           omega arith
 
   pub best_only : (list : List ℕ) → 3 ≤ length list
-      → Only q list (plan_numbers (Ok ROUTE (length best) v)) (best ++ drop (length best) list)
+      → Only q list (plan_numbers (routed (length best) v)) (best ++ drop (length best) list)
   best_only list h = record { allowed = given; only = only }
     where
-      given : Plans nodes roads q list (plan_numbers (Ok ROUTE (length best) v)) (best ++ drop (length best) list)
+      given : Plans nodes roads q list (plan_numbers (routed (length best) v)) (best ++ drop (length best) list)
       given = Plans.route best v (plan_passes q list b.cleared h) b.arrives (once b.arrives.walk) most
 
       same : {n : PlanNumbers} {xs : List ℕ} → Plans nodes roads q list n xs → xs ≡ best ++ drop (length best) list
-          → (n ≡ plan_numbers (Ok ROUTE (length best) v)) × (xs ≡ best ++ drop (length best) list)
+          → (n ≡ plan_numbers (routed (length best) v)) × (xs ≡ best ++ drop (length best) list)
       same {n} {xs} p e = ((one_plan nodes roads q list n _ xs _ p given).chosen e, e)
 
       only : (n : PlanNumbers) (xs : List ℕ) → Plans nodes roads q list n xs
-          → (n ≡ plan_numbers (Ok ROUTE (length best) v)) × (xs ≡ best ++ drop (length best) list)
+          → (n ≡ plan_numbers (routed (length best) v)) × (xs ≡ best ++ drop (length best) list)
       only n xs (Plans.refused r e) = not_both (plan_passes q list b.cleared h) e
       only n xs (Plans.none r e no_walk why) = absurd (no_walk best v b.arrives)
       only n xs (Plans.route ks u e g o m) =
@@ -106,7 +106,7 @@ module _ {q : PlanQuestion} {best : List ℕ} {v : Van} (b : BestBy q best v) wh
   pub best_row : {a : ℕ} → v.charge ≡ a → (list : List ℕ) → 3 ≤ length list → BestRow q a best list
   best_row e list h =
       record {
-        numbers = plan_numbers (Ok ROUTE (length best) v);
+        numbers = plan_numbers (routed (length best) v);
         success = refl;
         arrival_is = e;
         roads_is = refl;

@@ -12,7 +12,7 @@ use Rattle.battery.specs.Drive.{drive_all}
 use Rattle.journeys.specs.Walks.{roads_of}
 use Rattle.routes.proofs.Exactly.{driven_exactly}
 use Rattle.routes.specs.Steps.{DriveAsks}
-use Rattle.promises.specs.Given.{plan_numbers}
+use Rattle.promises.specs.Given.{plan_numbers, routed}
 use Rattle.promises.specs.Order.{battery_of, plan_van, plan_fault}
 use Rattle.planner.specs.Planning.{FoundAsks, FoundKeeps}
 use Rattle.promises.specs.Promises.{Plans}
@@ -51,5 +51,5 @@ module _ (ns rs : List ℕ) (q : PlanQuestion) (list : List ℕ) (passed : plan_
   plans_route r k =
       let d : drive_all (plan_van q) (roads_of rs w.by) ≡ Some k.end = rw front at k.drives in
       let v : w.van ≡ k.end = cc w.arrives.drives in
-      let p : r ≡ Ok ROUTE (length w.by) w.van = k.is ∙ (λ i. Ok ROUTE (length (front i)) (sym v i)) in
+      let p : r ≡ routed (length w.by) w.van = k.is ∙ (λ i. routed (length (front i)) (sym v i)) in
       rw (p, w.list_is) (Plans.route w.by w.van passed w.arrives w.once w.most)

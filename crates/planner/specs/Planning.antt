@@ -7,6 +7,7 @@ use Rattle.routes.specs.Places.{drive_faults}
 use Rattle.routes.specs.Steps.{DriveAsks}
 use Rattle.promises.specs.Order.{plan_van, plan_fault}
 use Rattle.promises.specs.declared.PlanQuestion.{PlanQuestion}
+use Rattle.promises.specs.Given.{routed}
 
 -- 1 to 9 have passed, and the van is the one that sets out
 pub record PlanAsks (ns rs : List ℕ) (q : PlanQuestion) (v : Van) (list : List ℕ) : Type 0 where
@@ -22,4 +23,4 @@ pub record FoundAsks (rs route : List ℕ) (source : ℕ) (v : Van) : Type 0 whe
 pub record FoundKeeps (rs route : List ℕ) (v : Van) (r : Result Route Refusal) : Type 0 where
   pub end : Van
   pub drives : drive_all v (roads_of rs route) ≡ Some end
-  pub is : r ≡ Ok ROUTE (length route) end
+  pub is : r ≡ routed (length route) end

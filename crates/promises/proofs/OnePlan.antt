@@ -1,6 +1,6 @@
 -- Two outcomes of best route on the same input agree in number, place and arrival; a refusal leaves nothing free, and with
 -- the same list after it all numbers are the same. Assumes nothing.
-use Rattle.std.specs.Prelude.{Err, Ok}
+use Rattle.std.specs.Prelude.{Err}
 use mathlib.Core.Path.{◌≡◌, refl, ap}
 use mathlib.Core.List.{List}
 use Prim.Native.Nat.{ℕ}
@@ -14,7 +14,7 @@ use Rattle.journeys.specs.Walks.{roads_of}
 use Rattle.refusals.specs.declared.Refusal.{Refusal}
 use Rattle.walks.proofs.Stops.{once_begins}
 use Rattle.promises.specs.Claims.{Agree, OnePlan}
-use Rattle.promises.specs.Given.{plan_numbers}
+use Rattle.promises.specs.Given.{plan_numbers, routed}
 use Rattle.promises.specs.Order.{plan_van}
 use Rattle.promises.specs.Promises.{Arrives, Plans}
 use Rattle.promises.specs.declared.PlanNumbers.{PlanNumbers}
@@ -33,11 +33,11 @@ agree_same e =
 
 -- walks by the same roads give the same numbers
 same_roads : {rs : List ℕ} {q : PlanQuestion} {ks js : List ℕ} {v w : Van} → Arrives rs q ks v → Arrives rs q js w → ks ≡ js
-    → plan_numbers (Ok ROUTE (length ks) v) ≡ plan_numbers (Ok ROUTE (length js) w)
+    → plan_numbers (routed (length ks) v) ≡ plan_numbers (routed (length js) w)
 same_roads {rs} {q} {ks} {js} {v} {w} a b e =
     let d = ap (λ (xs : List ℕ). drive_all (plan_van q) (roads_of rs xs)) e in
     let u : v ≡ w = cc (a.drives, b.drives) in
-    let p : plan_numbers (Ok ROUTE (length ks) v) ≡ plan_numbers (Ok ROUTE (length js) w) = cc in
+    let p : plan_numbers (routed (length ks) v) ≡ plan_numbers (routed (length js) w) = cc in
     p
 
 pub one_plan : OnePlan

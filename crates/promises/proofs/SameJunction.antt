@@ -1,5 +1,5 @@
 -- Source = target: best route gives the empty route, and arrives with the start charge. Assumes nothing.
-use Rattle.std.specs.Prelude.{Ok, Some}
+use Rattle.std.specs.Prelude.{Some}
 use mathlib.Core.Path.{◌≡◌, refl, sym, ap, subst}
 use mathlib.Core.List.{List, [], ◌++◌}
 use Prim.Native.Nat.{ℕ}
@@ -11,7 +11,7 @@ use Rattle.journeys.specs.Walks.{Walk, roads_of}
 use Rattle.walks.proofs.Stops.{once_closed}
 use Rattle.walks.specs.Walk.{stay}
 use Rattle.promises.specs.Claims.{StaysPut, SameJunction}
-use Rattle.promises.specs.Given.{plan_numbers}
+use Rattle.promises.specs.Given.{plan_numbers, routed}
 use Rattle.promises.specs.Order.{plan_van}
 use Rattle.promises.specs.Promises.{Arrives, Plans}
 use Rattle.promises.specs.declared.PlanQuestion.{PlanQuestion}
@@ -23,7 +23,7 @@ stay_arrives rs q e = record { walk = subst (λ v. Walk rs q.source [] v) e stay
 
 no_roads : (rs : List ℕ) (q : PlanQuestion) (list : List ℕ) (ks : List ℕ) (v : Van) → ks ≡ []
     → drive_all (plan_van q) (roads_of rs ks) ≡ Some v
-    → StaysPut q list (plan_numbers (Ok ROUTE (length ks) v)) (ks ++ drop (length ks) list)
+    → StaysPut q list (plan_numbers (routed (length ks) v)) (ks ++ drop (length ks) list)
 unfolding drive_all
 no_roads rs q list ks v e d =
     let f = ap (λ (xs : List ℕ). drive_all (plan_van q) (roads_of rs xs)) e in

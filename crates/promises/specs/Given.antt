@@ -1,27 +1,35 @@
 -- Numbers given back: document 01's number and values of each answer. A success has number 0 and place 0; a refusal has its
 -- number and place, and zero for all other numbers.
-use Rattle.std.specs.Prelude.{pos, Err, Ok, Result}
+use Rattle.std.specs.Prelude.{ℕ, pos, Err, Ok, Result}
 use Rattle.refusals.specs.Refusals.{number_of, place_of}
 use Rattle.refusals.specs.Order.{Checked}
 use Rattle.promises.specs.declared.CheckNumbers.{CheckNumbers}
 use Rattle.promises.specs.declared.PlanNumbers.{PlanNumbers}
 use Rattle.promises.specs.declared.DriveNumbers.{DriveNumbers}
 use Rattle.promises.specs.declared.ProfileNumbers.{ProfileNumbers}
+use Rattle.battery.specs.declared.Van.{Van}
+use Rattle.battery.specs.declared.Profile.{Profile}
+use Rattle.refusals.specs.declared.Refusal.{Refusal}
+use Rattle.promises.specs.declared.Route.{Route}
 
 abbrev pub check_numbers : Checked → CheckNumbers
-check_numbers (Ok tt) = record { number = 0; place = 0 }
+check_numbers (Ok u) = record { number = 0; place = 0 }
 check_numbers (Err r) = record { number = number_of r; place = place_of r }
 
+-- a best route of n roads with the van v at its end
+abbrev pub routed : ℕ → Van → Result Route Refusal
+routed n v = Ok (record { roads = n; end = v })
+
 abbrev pub plan_numbers : Result Route Refusal → PlanNumbers
-plan_numbers (Ok ROUTE n v) =
+plan_numbers (Ok r) =
     record {
       number = 0;
       place = 0;
-      roads = n;
-      arrival = v.charge;
-      drawn = v.drawn;
-      recovered = v.recovered;
-      spilled = v.spilled;
+      roads = r.roads;
+      arrival = r.end.charge;
+      drawn = r.end.drawn;
+      recovered = r.end.recovered;
+      spilled = r.end.spilled;
     }
 plan_numbers (Err r) =
     record { number = number_of r; place = place_of r; roads = 0; arrival = 0; drawn = 0; recovered = 0; spilled = 0 }

@@ -12,7 +12,7 @@ use Rattle.journeys.specs.Reasons.{Reason}
 use Rattle.journeys.specs.SetOff.{SetOff}
 use Rattle.journeys.specs.Walks.{Walk, Once, roads_of}
 use Rattle.refusals.specs.declared.Refusal.{Refusal}
-use Rattle.promises.specs.Given.{check_numbers, plan_numbers, drive_numbers, profile_numbers}
+use Rattle.promises.specs.Given.{check_numbers, plan_numbers, drive_numbers, profile_numbers, routed}
 use Rattle.promises.specs.Order.{battery_of, van_of, plan_van, plan_fault, drive_fault, profile_fault, set_off_fault}
 use Rattle.promises.specs.declared.CheckNumbers.{CheckNumbers}
 use Rattle.promises.specs.declared.PlanNumbers.{PlanNumbers}
@@ -50,7 +50,7 @@ pub data Plans (ns rs : List ℕ) (q : PlanQuestion) (list : List ℕ) : PlanNum
       → Plans ns rs q list (plan_numbers (Err r)) list
   route : (ks : List ℕ) (v : Van) → plan_fault ns rs q (length list) ≡ Ok tt
       → Arrives rs q ks v → Once rs q.source ks → Most rs q v.charge
-      → Plans ns rs q list (plan_numbers (Ok ROUTE (length ks) v)) (ks ++ drop (length ks) list)
+      → Plans ns rs q list (plan_numbers (routed (length ks) v)) (ks ++ drop (length ks) list)
 
 -- drive: the arrival and the three totals of the roads driven by the battery rule
 pub data Drives (ns rs : List ℕ) (q : DriveQuestion) (es : List ℕ) : DriveNumbers → Type 0 where
