@@ -19,6 +19,7 @@ use Rattle.walks.specs.Walk.{stay, go}
 use Rattle.hill.specs.Charges.{Charges}
 use Rattle.hill.specs.Hill.{roads, sized}
 use Rattle.hill.proofs.Walks.{Way, way, by_1, by_3, by_1_3, no_way, to_3, to_2, hill_3, flat_2}
+use Rattle.battery.specs.declared.Profile.{Profile}
 
 -- a walk with this profile needs b or more, or cannot be driven at all
 abbrev Needs : ℕ → Option Profile → Type 0

@@ -2,7 +2,7 @@
 // entry's own order up to the records.
 #![tactic(auto)]
 
-ghost use Rattle.std.specs.Prelude.{◌≡◌, ◌-◌};
+ghost use Rattle.std.specs.Prelude.{◌≡◌};
 ghost use Rattle.numbers.specs.Signed.{draw};
 ghost use Rattle.refusals.specs.Order.{first};
 ghost use Rattle.battery.specs.Drive.{fresh};
@@ -11,37 +11,45 @@ ghost use Rattle.promises.specs.Order.{is_battery, is_start, battery_of, battery
 ghost use Rattle.promises.specs.Order.{plan_fault, drive_asked, profile_asked, set_off_fault};
 ghost use Rattle.promises.specs.Passed.{Whole};
 
-use battery::{Battery, Van};
+use battery::{Battery, MOST_BATTERY, Van};
 use promises::{DriveQuestion, PlanQuestion, ProfileQuestion, SetOffQuestion};
-use refusals::{Checked, Refusal};
+use refusals::{Refusal, unless};
 
 // Best route: 1 to 6, then the records.
 #[tactic(auto, unfolding(promises::specs::Order::plan_fault))]
-pub fn check_plan(nodes: &[u8], roads: &[u8], question: PlanQuestion, room: usize) -> Checked
+pub fn check_plan(
+    nodes: &[u8],
+    roads: &[u8],
+    question: PlanQuestion,
+    room: usize,
+) -> Result<(), Refusal>
     ensures { result ≡ plan_fault nodes.now roads.now question room }
 {
-    let files = network::check_files(nodes, roads);
-    let energy = check_energy(question.battery, question.start);
-    let source = check_junction(nodes, question.source);
-    let target = check_junction(nodes, question.target);
-    let list = check_room(less_one(nodes.len() / network::JUNCTION_BYTES), room);
-    let ends = refusals::first(source, refusals::first(target, list));
-    let asked = refusals::first(files, refusals::first(energy, ends));
-    then_records(asked, nodes, roads)
+    network::check_files(nodes, roads)?;
+    check_energy(question.battery, question.start)?;
+    check_junction(nodes, question.source)?;
+    check_junction(nodes, question.target)?;
+    check_room(
+        (nodes.len() / network::JUNCTION_BYTES).saturating_sub(1),
+        room,
+    )?;
+    network::check_records(nodes, roads)
 }
 
 // Drive: 1, 2, 3, 4, 5 (source), 11, then the records.
-pub fn check_drive(nodes: &[u8], roads: &[u8], question: DriveQuestion, entries: usize) -> Checked
+pub fn check_drive(
+    nodes: &[u8],
+    roads: &[u8],
+    question: DriveQuestion,
+    entries: usize,
+) -> Result<(), Refusal>
     ensures { result ≡ first (drive_asked nodes.now roads.now question entries) (records_fault nodes.now roads.now) }
 {
-    let files = network::check_files(nodes, roads);
-    let energy = check_energy(question.battery, question.start);
-    let source = refusals::first(
-        check_junction(nodes, question.source),
-        check_length(entries),
-    );
-    let asked = refusals::first(files, refusals::first(energy, source));
-    then_records(asked, nodes, roads)
+    network::check_files(nodes, roads)?;
+    check_energy(question.battery, question.start)?;
+    check_junction(nodes, question.source)?;
+    check_length(entries)?;
+    network::check_records(nodes, roads)
 }
 
 // Profile: 1, 2, 3, 5 (source), 11, then the records.
@@ -50,30 +58,32 @@ pub fn check_profile(
     roads: &[u8],
     question: ProfileQuestion,
     entries: usize,
-) -> Checked
+) -> Result<(), Refusal>
     ensures { result ≡ first (profile_asked nodes.now roads.now question entries) (records_fault nodes.now roads.now) }
 {
-    let files = network::check_files(nodes, roads);
-    let battery = check_battery(question.battery);
-    let source = refusals::first(
-        check_junction(nodes, question.source),
-        check_length(entries),
-    );
-    let asked = refusals::first(files, refusals::first(battery, source));
-    then_records(asked, nodes, roads)
+    let ProfileQuestion { battery, source } = question;
+    network::check_files(nodes, roads)?;
+    check_battery(battery)?;
+    check_junction(nodes, source)?;
+    check_length(entries)?;
+    network::check_records(nodes, roads)
 }
 
 // The charges to set off with: 1, 2, 3, 5 (depot), 6, then the records.
 #[tactic(auto, unfolding(promises::specs::Order::set_off_fault))]
-pub fn check_set_off(nodes: &[u8], roads: &[u8], question: SetOffQuestion, room: usize) -> Checked
+pub fn check_set_off(
+    nodes: &[u8],
+    roads: &[u8],
+    question: SetOffQuestion,
+    room: usize,
+) -> Result<(), Refusal>
     ensures { result ≡ set_off_fault nodes.now roads.now question room }
 {
-    let files = network::check_files(nodes, roads);
-    let battery = check_battery(question.battery);
-    let list = check_room(nodes.len() / network::JUNCTION_BYTES, room);
-    let depot = refusals::first(check_junction(nodes, question.depot), list);
-    let asked = refusals::first(files, refusals::first(battery, depot));
-    then_records(asked, nodes, roads)
+    network::check_files(nodes, roads)?;
+    check_battery(question.battery)?;
+    check_junction(nodes, question.depot)?;
+    check_room(nodes.len() / network::JUNCTION_BYTES, room)?;
+    network::check_records(nodes, roads)
 }
 
 // The van that sets out, once 3 and 4 have passed.
@@ -94,75 +104,53 @@ pub fn battery_of(battery: i64) -> Battery
     }
 }
 
-// The records, where nothing before them is at fault: they are many.
-fn then_records(asked: Checked, nodes: &[u8], roads: &[u8]) -> Checked
-    ensures { result ≡ first asked (records_fault nodes.now roads.now) }
-{
-    match asked {
-        Checked::Passed => network::check_records(nodes, roads),
-        Checked::Refused(r) => Checked::Refused(r),
-    }
-}
-
 // 3, 4.
-fn check_energy(battery: i64, start: i64) -> Checked
-    ensures { result ≡ energy_fault battery start }
+fn check_energy(size: i64, start: i64) -> Result<(), Refusal>
+    ensures { result ≡ energy_fault size start }
 {
-    let size = check_battery(battery);
-    let charge = refusals::unless(is_start(battery, start), Refusal::Start);
-    refusals::first(size, charge)
+    check_battery(size)?;
+    unless(is_start(size, start), Refusal::Start)
 }
 
 // 3.
-fn check_battery(battery: i64) -> Checked
+fn check_battery(battery: i64) -> Result<(), Refusal>
     ensures { result ≡ battery_fault battery }
 {
-    refusals::unless(is_battery(battery), Refusal::Battery)
+    unless(is_battery(battery), Refusal::Battery)
 }
 
 // 5.
-fn check_junction(nodes: &[u8], v: u64) -> Checked
+fn check_junction(nodes: &[u8], v: u64) -> Result<(), Refusal>
     ensures { result ≡ junction_fault nodes.now v }
 {
-    refusals::unless(
+    unless(
         v < (nodes.len() / network::JUNCTION_BYTES) as u64,
         Refusal::NoJunction,
     )
 }
 
 // 6: a list of `room` entries is to have room for `most`.
-fn check_room(most: usize, room: usize) -> Checked
+fn check_room(most: usize, room: usize) -> Result<(), Refusal>
     ensures { result ≡ room_fault most room }
 {
-    refusals::unless(most <= room, Refusal::ShortList)
+    unless(most <= room, Refusal::ShortList)
 }
 
 // 11.
-fn check_length(entries: usize) -> Checked
+fn check_length(entries: usize) -> Result<(), Refusal>
     ensures { result ≡ length_fault entries }
 {
-    refusals::unless(entries <= routes::MOST_ENTRIES, Refusal::LongRoute)
-}
-
-// One less, and 0 of 0.
-fn less_one(n: usize) -> usize
-    ensures { result ≡ n - 1 }
-{
-    if n == 0 { 0 } else { n - 1 }
+    unless(entries <= routes::MOST_ENTRIES, Refusal::LongRoute)
 }
 
 fn is_battery(battery: i64) -> bool
     ensures { result ≡ is_battery battery }
 {
-    if 1 <= battery {
-        battery <= battery::MOST_BATTERY
-    } else {
-        false
-    }
+    (1..=MOST_BATTERY).contains(&battery)
 }
 
 fn is_start(battery: i64, start: i64) -> bool
     ensures { result ≡ is_start battery start }
 {
-    if 0 <= start { start <= battery } else { false }
+    (0..=battery).contains(&start)
 }

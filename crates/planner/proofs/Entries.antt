@@ -22,6 +22,8 @@ use Rattle.promises.specs.Passed.{RoutePassed}
 use Rattle.promises.specs.Promises.{Drives, Profiles}
 use Rattle.promises.specs.declared.DriveQuestion.{DriveQuestion}
 use Rattle.promises.specs.declared.ProfileQuestion.{ProfileQuestion}
+use Rattle.battery.specs.declared.Van.{Van}
+use Rattle.battery.specs.declared.Profile.{Profile}
 
 -- what the drive of a route asks for
 pub sets_out : (ns rs es : List ℕ) (m b : ℤ) → RoutePassed ns rs m (length es) → is_start m b ≡ true

@@ -20,6 +20,8 @@ use Rattle.promises.specs.declared.PlanQuestion.{PlanQuestion}
 use Rattle.promises.proofs.Passed.{plan_passed}
 use Rattle.planner.proofs.Entries.{sets_out}
 use Rattle.planner.proofs.Searching.{BestWalk}
+use Rattle.refusals.specs.declared.Refusal.{Refusal}
+use Rattle.promises.specs.declared.Route.{Route}
 
 module _ (ns rs : List ℕ) (q : PlanQuestion) (list : List ℕ) (passed : plan_fault ns rs q (length list) ≡ Ok tt)
     (count : ℕ) (list' : List ℕ) (w : BestWalk ns rs q list count list') where

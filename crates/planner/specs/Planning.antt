@@ -8,6 +8,8 @@ use Rattle.routes.specs.Steps.{DriveAsks}
 use Rattle.promises.specs.Order.{plan_van, plan_fault}
 use Rattle.promises.specs.declared.PlanQuestion.{PlanQuestion}
 use Rattle.promises.specs.Given.{routed}
+use Rattle.refusals.specs.declared.Refusal.{Refusal}
+use Rattle.promises.specs.declared.Route.{Route}
 
 -- 1 to 9 have passed, and the van is the one that sets out
 pub record PlanAsks (ns rs : List ℕ) (q : PlanQuestion) (v : Van) (list : List ℕ) : Type 0 where
