@@ -12,20 +12,22 @@ ghost use Rattle.depot.specs.Filling.{FillAsks, WriteAsks, Written, ChargeAsks};
 use battery::Battery;
 use promises::SetOffQuestion;
 use reading::{Reading, Sense};
-use refusals::Checked;
+use refusals::Refusal;
 
 // Writes one number for each junction at the front of the list: the least charge to set off with,
 // and -1 where no charge up to a full battery does.
-pub fn set_off(nodes: &[u8], roads: &[u8], question: SetOffQuestion, list: &mut [i32]) -> Checked
+pub fn set_off(
+    nodes: &[u8],
+    roads: &[u8],
+    question: SetOffQuestion,
+    list: &mut [i32],
+) -> Result<(), Refusal>
     ensures { SetsOff nodes.now roads.now question list.old (check_numbers result) list.new }
 {
-    let checked = orders::check_set_off(nodes, roads, question, list.len());
-    if let Checked::Refused(r) = checked {
-        return Checked::Refused(r);
-    }
+    orders::check_set_off(nodes, roads, question, list.len())?;
     let battery = orders::battery_of(question.battery);
     fill(nodes, roads, battery, question.depot as usize, list);
-    Checked::Passed
+    Ok(())
 }
 
 // The search from the depot over roads read backward, and the numbers that its labels tell. It sets

@@ -16,7 +16,7 @@ use promises::{
 pub extern "C" fn sedge_check(nodes: &[u8], roads: &[u8]) -> CheckNumbers
     ensures { Checks nodes.now roads.now result }
 {
-    planner::check_numbers(planner::check(nodes, roads))
+    planner::check(nodes, roads).into()
 }
 
 // Best route.
@@ -38,7 +38,7 @@ pub extern "C" fn sedge_best_route(
         source,
         target,
     };
-    planner::plan_numbers(planner::best_route(nodes, roads, question, route))
+    planner::best_route(nodes, roads, question, route).into()
 }
 
 // Drive of a given route.
@@ -58,7 +58,7 @@ pub extern "C" fn sedge_drive(
         start,
         source,
     };
-    planner::drive_numbers(planner::drive(nodes, roads, question, route))
+    planner::drive(nodes, roads, question, route).into()
 }
 
 // Profile of a given route.
@@ -73,7 +73,7 @@ pub extern "C" fn sedge_profile(
     ensures { Profiles nodes.now roads.now (profile_question battery source) route.now result }
 {
     let question = ProfileQuestion { battery, source };
-    planner::profile_numbers(planner::profile(nodes, roads, question, route))
+    planner::profile(nodes, roads, question, route).into()
 }
 
 // The charge to set off with.
@@ -88,5 +88,5 @@ pub extern "C" fn sedge_set_off(
     ensures { SetsOff nodes.now roads.now (set_off_question battery depot) list.old result list.new }
 {
     let question = SetOffQuestion { battery, depot };
-    planner::check_numbers(depot::set_off(nodes, roads, question, list))
+    depot::set_off(nodes, roads, question, list).into()
 }
