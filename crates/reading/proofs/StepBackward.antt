@@ -4,11 +4,10 @@ use mathlib.Core.Bool.{Bool, true, false, ◌&&◌}
 use mathlib.Core.List.{List}
 use Prim.Native.Nat.{ℕ, zero, suc, ◌+◌, ◌-◌, ◌*◌, ◌≤◌, ◌<◌, ◌^◌, min}
 use native.Mathlib.Omega.{arith}
-use borrow.Author.Tests.{leb-true, leb-false, le-leb, ltb-false}
+use borrow.Author.Tests.{leb-true, leb-false, ltb-false}
 use lib.Dec.{leb, ltb}
-use lib.IntN.{ℤ, pos, negsuc, ◌-ℤ◌}
-use lib.Signed.{mag, le_z}
-use Rattle.numbers.proofs.Diff.{diff_self, diff_pos, diff_minus, diff_le_z, draw_of, draw_lt, gain_le}
+use lib.IntN.{ℤ, pos, negsuc}
+use Rattle.numbers.proofs.Diff.{diff_self, diff_minus, draw_of}
 use Rattle.numbers.specs.Bytes.{u32_at, signed32, signed_pick}
 use Rattle.numbers.specs.Signed.{draw, gain}
 use Rattle.battery.specs.declared.Battery.{Battery}
@@ -56,15 +55,6 @@ need_below (negsuc n) l h f = omega arith
 
 pub psi_backward_is : (p : ℤ) → psi_backward p ≡ most_potential + 1 + draw p - gain p
 psi_backward_is p = let e = draw_of (diff_minus (diff_self p) (diff_self least_potential)) in omega arith
-
--- it is not below 0 and fits 32 bits
-pub psi_backward_fits : (p : ℤ) → mag p < 2 ^ 31 → (le_z (pos 0) (p -ℤ least_potential) ≡ true) × (psi_backward p < 2 ^ 32)
-psi_backward_fits p h =
-    let d = draw_lt p (2 ^ 31) h in
-    let g = gain_le p (2 ^ 31) h in (
-      diff_le_z (diff_pos 0) (diff_minus (diff_self p) (diff_self least_potential)) ∙ le-leb (0 + (gain p + 0)) (draw p + (most_potential + 1) + 0) (omega arith),
-      omega (arith, psi_backward_is p),
-    )
 
 signed_gain : (n : ℕ) → gain (signed32 n) ≤ most_potential + 1
 signed_gain n = go (ltb n (2 ^ 31)) refl

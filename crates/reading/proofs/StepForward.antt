@@ -4,11 +4,10 @@ use mathlib.Core.Bool.{Bool, true, false}
 use mathlib.Core.List.{List}
 use Prim.Native.Nat.{ℕ, zero, suc, ◌+◌, ◌-◌, ◌*◌, ◌≤◌, ◌<◌, ◌^◌, min}
 use native.Mathlib.Omega.{arith}
-use borrow.Author.Tests.{leb-true, leb-false, le-leb, ltb-true}
+use borrow.Author.Tests.{leb-true, leb-false, ltb-true}
 use lib.Dec.{leb, ltb}
-use lib.IntN.{ℤ, pos, negsuc, ◌-ℤ◌}
-use lib.Signed.{mag, le_z}
-use Rattle.numbers.proofs.Diff.{diff_self, diff_pos, diff_minus, diff_le_z, draw_of, draw_lt, gain_le}
+use lib.IntN.{ℤ, pos, negsuc}
+use Rattle.numbers.proofs.Diff.{diff_self, diff_pos, diff_minus, draw_of}
 use Rattle.numbers.specs.Bytes.{u32_at, signed32, signed_pick}
 use Rattle.numbers.specs.Signed.{draw, gain}
 use Rattle.battery.specs.declared.Battery.{Battery}
@@ -44,15 +43,6 @@ forward_capped B r = record { none = refl; some = some }
 
 pub psi_forward_is : (p : ℤ) → psi_forward p ≡ most_potential + gain p - draw p
 psi_forward_is p = let e = draw_of (diff_minus (diff_pos most_potential) (diff_self p)) in omega arith
-
--- it is not below 0 and fits 32 bits
-pub psi_forward_fits : (p : ℤ) → mag p < 2 ^ 31 → (le_z (pos 0) (pos most_potential -ℤ p) ≡ true) × (psi_forward p < 2 ^ 32)
-psi_forward_fits p h =
-    let d = draw_lt p (2 ^ 31) h in
-    let g = gain_le p (2 ^ 31) h in (
-      diff_le_z (diff_pos 0) (diff_minus (diff_pos most_potential) (diff_self p)) ∙ le-leb (0 + (0 + draw p)) (most_potential + gain p + 0) (omega arith),
-      omega (arith, psi_forward_is p),
-    )
 
 signed_draw : (n : ℕ) → draw (signed32 n) ≤ most_potential
 signed_draw n = go (ltb n (2 ^ 31)) refl

@@ -2,9 +2,9 @@
 // number of a junction. A label is an amount plus one, and 0 is none.
 #![tactic(auto)]
 
-ghost use Rattle.std.specs.Prelude.{◌≡◌, min};
+ghost use Rattle.std.specs.Prelude.{◌≡◌};
 ghost use Rattle.reading.specs.Asks.{StepAsks};
-ghost use Rattle.reading.specs.Reading.{entered, left, step_forward, step_backward, step_of, psi_forward, psi_backward, psi_of};
+ghost use Rattle.reading.specs.Reading.{entered, left, step_of, psi_of};
 
 use battery::{Battery, Road};
 
@@ -29,8 +29,7 @@ impl Reading {
     pub fn entered(self, road: Road) -> usize
         ensures { result ≡ entered self.sense road }
     {
-        let sense = self.sense;
-        match sense {
+        match self.sense {
             Sense::Forward => road.tail as usize,
             Sense::Backward => road.head as usize,
         }
@@ -40,82 +39,36 @@ impl Reading {
     pub fn left(self, road: Road) -> usize
         ensures { result ≡ left self.sense road }
     {
-        let sense = self.sense;
-        match sense {
+        match self.sense {
             Sense::Forward => road.head as usize,
             Sense::Backward => road.tail as usize,
         }
     }
 
-    // The label that a road brings, from a label where it is entered.
+    // The label that a road brings, from a label where it is entered: by the battery rule the smaller
+    // of charge - consumption and the battery size; read backward the smaller of slack - consumption
+    // and the battery size less the road's own need.
     pub fn step(self, road: Road, label: u32) -> u32
         requires { StepAsks self.battery road label }
         ensures { result ≡ step_of self.sense self.battery road label }
     {
-        let sense = self.sense;
-        match sense {
-            Sense::Forward => step_forward(self.battery, road, label),
-            Sense::Backward => step_backward(self.battery, road, label),
-        }
+        let takes = numbers::drawn(road.consumption);
+        let gives = numbers::gained(road.consumption);
+        let most = match self.sense {
+            Sense::Forward => self.battery.size + 1,
+            Sense::Backward => (self.battery.size + 1).saturating_sub(takes),
+        };
+        (label + gives).saturating_sub(takes).min(most)
     }
 
-    // The number of a junction, from its potential.
+    // The number of a junction, from its potential: how far that stands below the largest, or above
+    // the least.
     pub fn psi(self, potential: i32) -> u32
         ensures { result ≡ psi_of self.sense potential }
     {
-        let sense = self.sense;
-        match sense {
-            Sense::Forward => below_most(potential),
-            Sense::Backward => above_least(potential),
+        match self.sense {
+            Sense::Forward => i32::MAX.abs_diff(potential),
+            Sense::Backward => i32::MIN.abs_diff(potential),
         }
     }
-}
-
-// By the battery rule: the smaller of charge - consumption and the battery size, as labels.
-fn step_forward(battery: Battery, road: Road, label: u32) -> u32
-    requires { StepAsks battery road label }
-    ensures { result ≡ step_forward battery road label }
-{
-    let takes = numbers::drawn(road.consumption);
-    let has = label + numbers::gained(road.consumption);
-    if takes < has {
-        smaller(has - takes, battery.size + 1)
-    } else {
-        0
-    }
-}
-
-// The rule read backward: the smaller of slack - consumption and the battery size less the road's
-// own need, as labels.
-fn step_backward(battery: Battery, road: Road, label: u32) -> u32
-    requires { StepAsks battery road label }
-    ensures { result ≡ step_backward battery road label }
-{
-    let needs = numbers::drawn(road.consumption);
-    let has = label + numbers::gained(road.consumption);
-    if needs < has {
-        smaller(has - needs, battery.size + 1 - needs)
-    } else {
-        0
-    }
-}
-
-fn smaller(x: u32, y: u32) -> u32
-    ensures { result ≡ min x y }
-{
-    if x < y { x } else { y }
-}
-
-// How far a potential stands below the largest.
-fn below_most(potential: i32) -> u32
-    ensures { result ≡ psi_forward potential }
-{
-    numbers::whole(2147483647 - potential as i64)
-}
-
-// How far a potential stands above the least.
-fn above_least(potential: i32) -> u32
-    ensures { result ≡ psi_backward potential }
-{
-    numbers::whole(potential as i64 + 2147483648)
 }
