@@ -1,4 +1,5 @@
 // How a line is read: from the front, one thing after another.
+ghost use Rattle.std.specs.Prelude.{◌≡◌, ◌∷◌, ◌++◌, OnSome, IfNone};
 
 // What is left of a line. Where what is asked for does not stand at its front, the answer is None.
 #[derive(Clone, Copy)]
@@ -8,7 +9,10 @@ pub struct Cursor<'a> {
 
 impl<'a> Cursor<'a> {
     // Passes a byte.
-    pub fn byte(&mut self, b: u8) -> Option<()> {
+    pub fn byte(&mut self, b: u8) -> Option<()>
+        ensures passed { OnSome result (self.old.rest.now ≡ b ∷ self.new.rest.now) }
+        ensures stays { IfNone result (self.new ≡ self.old) }
+    {
         self.rest = self.rest.strip_prefix(&[b])?;
         Some(())
     }
@@ -16,6 +20,7 @@ impl<'a> Cursor<'a> {
     // What stands before the first byte that ends it, or all that is left.
     pub fn until<F: FnMut(&u8) -> bool>(&mut self, is_end: F) -> &'a [u8]
         requires { (state : F) (x : _) → F.pre state x }
+        ensures { self.old.rest.now ≡ result.now ++ self.new.rest.now }
     {
         let text = self.rest;
         let end = text.iter().position(is_end).unwrap_or(text.len());

@@ -27,10 +27,21 @@ enum Kind {
     I32,
 }
 
+// What stands next in a list.
+#[derive(Clone, Copy)]
+enum Item {
+    // `22x`, before a group.
+    Times(u64),
+    // `5b`, at the line's end.
+    Cut(u64),
+    Number(i128),
+    GroupEnd,
+}
+
 // A list as far as it is read: what is left of the line, the group that is read and how often it is
 // still to be, and the bytes of the numbers.
 #[derive(Drop)]
-struct List<'a> {
+struct Listing<'a> {
     record: Record,
     line: Cursor<'a>,
     group: Cursor<'a>,
@@ -70,7 +81,7 @@ impl Kind {
 
 // A list that goes to the line's end.
 pub fn read_list(line: Cursor<'_>, record: Record) -> Option<File> {
-    let mut list = List {
+    let mut list = Listing {
         record,
         line,
         group: line,
@@ -81,58 +92,68 @@ pub fn read_list(line: Cursor<'_>, record: Record) -> Option<File> {
         if MOST_STEPS - items <= list.file.len() {
             return None;
         }
-        if list.read_item()? {
-            return Some(list.file);
+        match list.next_item()? {
+            Item::Times(times) => list.begin_group(times)?,
+            Item::Number(number) => list.add(number)?,
+            Item::Cut(size) => return list.cut(size),
+            Item::GroupEnd => {
+                if list.end_group()? {
+                    return Some(list.file);
+                }
+            }
         }
     }
     None
 }
 
-impl<'a> List<'a> {
-    // Reads a count, a cut, a number or the end of a group. Whether the list ends with it.
-    fn read_item(&mut self) -> Option<bool> {
+impl<'a> Listing<'a> {
+    // Passes what stands next. A count stands before its group, a cut ends the line.
+    fn next_item(&mut self) -> Option<Item> {
         let is_first = self.line.rest.len() == self.group.rest.len();
         if self.line.byte(b' ').is_none() {
-            return self.end_group();
+            return Some(Item::GroupEnd);
         }
-        let mut after = self.line;
-        if let Some(n) = after.digits() {
-            if after.rest == b"b".as_slice() {
-                return self.cut(n);
+        let mut line = self.line;
+        if let Some(n) = line.digits() {
+            if line.rest == b"b".as_slice() {
+                return Some(Item::Cut(n));
             }
-            if is_first && after.byte(b'x').is_some() {
-                self.begin_group(after, n)?;
-                return Some(false);
+            if is_first && line.byte(b'x').is_some() {
+                self.line = line;
+                return Some(Item::Times(n));
             }
         }
-        let number = self.line.number()?;
-        let kind = self.record.kind_at(self.file.len());
-        kind.add(number, &mut self.file)?;
-        Some(false)
+        self.line.number().map(Item::Number)
     }
 
-    // `22x`, which begins a group.
-    fn begin_group(&mut self, group: Cursor<'a>, times: u64) -> Option<()> {
+    // The group stands so often; a count before a count other than 1 is none.
+    fn begin_group(&mut self, times: u64) -> Option<()> {
         if self.times != 1 || times == 0 {
             return None;
         }
-        self.line = group;
-        self.group = group;
+        self.group = self.line;
         self.times = times;
         Some(())
     }
 
-    // `5b` at the line's end: the first 5 bytes.
-    fn cut(&mut self, size: u64) -> Option<bool> {
+    // The bytes of a number come next.
+    fn add(&mut self, number: i128) -> Option<()> {
+        let kind = self.record.kind_at(self.file.len());
+        kind.add(number, &mut self.file)
+    }
+
+    // The first bytes, if there are so many.
+    fn cut(mut self, size: u64) -> Option<File> {
         let size = usize::try_from(size).ok()?;
         if self.file.len() < size {
             return None;
         }
         self.file.truncate(size);
-        Some(true)
+        Some(self.file)
     }
 
-    // The group is read again, or the line ends, or a comma stands here and the next one begins.
+    // The group is read again, or the line ends, or a comma stands here and the next group begins.
+    // Answers whether the line ends.
     fn end_group(&mut self) -> Option<bool> {
         if !self.record.ends_at(self.file.len()) {
             return None;

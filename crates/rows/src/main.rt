@@ -11,13 +11,12 @@
 // numbers given back, and the lent list if there is one; any other line as a bad row.
 #![tactic(auto)]
 
-ghost use Rattle.std.specs.Prelude.{◌≤◌, IfOk, length};
-
 mod cursor;
 mod line;
 mod list;
 mod question;
 
+use arrayvec::ArrayVec;
 use line::{Line, Network};
 use list::File;
 use std::io;
@@ -27,28 +26,13 @@ use std::io::Read;
 const TEXT_ROOM: usize = 65536;
 
 fn main(rt: HostRuntime) -> io::Result<()> {
-    let mut text = [0u8; TEXT_ROOM];
-    let size = read_full(&mut rt.reader(), &mut text)?;
-    run(&rt, &text[..size])?;
-    if size == TEXT_ROOM {
+    let mut text: ArrayVec<u8, TEXT_ROOM> = ArrayVec::new();
+    io::copy(&mut rt.reader().take(TEXT_ROOM as u64), &mut text)?;
+    run(&rt, &text)?;
+    if text.is_full() {
         bad_row(&rt, 0)?;
     }
     Ok(())
-}
-
-// Reads until the room is full or the input ends, and answers how many bytes came.
-fn read_full(input: &mut impl Read, room: &mut [u8]) -> io::Result<usize>
-    ensures { IfOk result (λ n. n ≤ length room.new) }
-{
-    let mut size = 0;
-    while size < room.len() {
-        let more = input.read(&mut room[size..])?;
-        if more == 0 {
-            break;
-        }
-        size += more;
-    }
-    Ok(size)
 }
 
 // Line by line, from no network.

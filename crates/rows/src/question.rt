@@ -4,7 +4,10 @@ use crate::cursor::Cursor;
 use crate::line::Network;
 use crate::list::{Record, read_list};
 use arrayvec::ArrayVec;
-use promises::{DriveQuestion, PlanQuestion, ProfileQuestion, SetOffQuestion};
+use promises::{
+    CheckNumbers, DriveNumbers, DriveQuestion, PlanNumbers, PlanQuestion, ProfileNumbers,
+    ProfileQuestion, SetOffQuestion,
+};
 use refusals::Checked;
 use std::fmt::Display;
 use std::io;
@@ -13,15 +16,15 @@ use std::io;
 const MOST_LIST: usize = routes::MOST_ENTRIES + 1;
 
 // The list of a row: a route, or what is lent for roads or for charges.
-type List<T> = ArrayVec<T, MOST_LIST>;
+type Entries<T> = ArrayVec<T, MOST_LIST>;
 
 #[derive(Drop)]
 pub enum Question {
     Check,
-    Drive(DriveQuestion, List<u16>),
-    Profile(ProfileQuestion, List<u16>),
-    BestRoute(PlanQuestion, List<u16>),
-    SetOff(SetOffQuestion, List<i32>),
+    Drive(DriveQuestion, Entries<u16>),
+    Profile(ProfileQuestion, Entries<u16>),
+    BestRoute(PlanQuestion, Entries<u16>),
+    SetOff(SetOffQuestion, Entries<i32>),
 }
 
 impl Question {
@@ -50,7 +53,7 @@ impl Question {
 }
 
 fn read_check(line: Cursor<'_>) -> Option<Question> {
-    let list: List<u16> = read_entries(line)?;
+    let list: Entries<u16> = read_entries(line)?;
     list.is_empty().then_some(Question::Check)
 }
 
@@ -90,8 +93,8 @@ fn read_set_off(mut line: Cursor<'_>) -> Option<Question> {
 }
 
 // The list after a comma, or none at the line's end: so many entries as the bytes hold.
-fn read_entries<T: From<u16> + Default + Drop>(mut line: Cursor<'_>) -> Option<List<T>> {
-    let mut list = List::new();
+fn read_entries<T: From<u16> + Default + Drop>(mut line: Cursor<'_>) -> Option<Entries<T>> {
+    let mut list = Entries::new();
     if line.rest.is_empty() {
         return Some(list);
     }
@@ -114,19 +117,15 @@ fn drive(
     question: DriveQuestion,
     route: &[u16],
 ) -> io::Result<()> {
-    let driven = planner::drive(&network.junctions, &network.roads, question, route);
-    let given = planner::drive_numbers(driven);
-    print_numbers(
-        rt,
-        &[
-            given.number,
-            given.place,
-            given.arrival,
-            given.drawn,
-            given.recovered,
-            given.spilled,
-        ],
-    )
+    let DriveNumbers {
+        number,
+        place,
+        arrival,
+        drawn,
+        recovered,
+        spilled,
+    } = planner::drive_numbers(planner::drive(&network.junctions, &network.roads, question, route));
+    print!(rt; " {number} {place} {arrival} {drawn} {recovered} {spilled}")
 }
 
 fn profile(
@@ -135,33 +134,42 @@ fn profile(
     question: ProfileQuestion,
     route: &[u16],
 ) -> io::Result<()> {
-    let profiled = planner::profile(&network.junctions, &network.roads, question, route);
-    let given = planner::profile_numbers(profiled);
-    print_numbers(rt, &[given.number, given.place, given.need])?;
-    print_numbers(rt, &[given.sum])?;
-    print_numbers(rt, &[given.top])
+    let ProfileNumbers {
+        number,
+        place,
+        need,
+        sum,
+        top,
+    } = planner::profile_numbers(planner::profile(
+        &network.junctions,
+        &network.roads,
+        question,
+        route,
+    ));
+    print!(rt; " {number} {place} {need} {sum} {top}")
 }
 
 fn best_route(
     rt: &impl Print,
     network: &Network,
     question: PlanQuestion,
-    mut lent: List<u16>,
+    mut lent: Entries<u16>,
 ) -> io::Result<()> {
-    let planned = planner::best_route(&network.junctions, &network.roads, question, &mut lent);
-    let given = planner::plan_numbers(planned);
-    print_numbers(
-        rt,
-        &[
-            given.number,
-            given.place,
-            given.roads,
-            given.arrival,
-            given.drawn,
-            given.recovered,
-            given.spilled,
-        ],
-    )?;
+    let PlanNumbers {
+        number,
+        place,
+        roads,
+        arrival,
+        drawn,
+        recovered,
+        spilled,
+    } = planner::plan_numbers(planner::best_route(
+        &network.junctions,
+        &network.roads,
+        question,
+        &mut lent,
+    ));
+    print!(rt; " {number} {place} {roads} {arrival} {drawn} {recovered} {spilled}")?;
     print_list(rt, &lent)
 }
 
@@ -169,28 +177,23 @@ fn set_off(
     rt: &impl Print,
     network: &Network,
     question: SetOffQuestion,
-    mut lent: List<i32>,
+    mut lent: Entries<i32>,
 ) -> io::Result<()> {
     let checked = depot::set_off(&network.junctions, &network.roads, question, &mut lent);
     print_checked(rt, checked)?;
     print_list(rt, &lent)
 }
 
-// Number and place.
+// Number and place of a check.
 fn print_checked(rt: &impl Print, checked: Checked) -> io::Result<()> {
-    let given = planner::check_numbers(checked);
-    print_numbers(rt, &[given.number, given.place])
+    let CheckNumbers { number, place } = planner::check_numbers(checked);
+    print!(rt; " {number} {place}")
 }
 
-// The lent list.
+// The lent list, as it is after.
 fn print_list<T: Display>(rt: &impl Print, list: &[T]) -> io::Result<()> {
     print!(rt; ", list")?;
-    print_numbers(rt, list)
-}
-
-// Each number after a space.
-fn print_numbers<T: Display>(rt: &impl Print, numbers: &[T]) -> io::Result<()> {
-    for x in numbers {
+    for x in list {
         print!(rt; " {x}")?;
     }
     Ok(())
