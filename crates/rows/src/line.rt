@@ -18,6 +18,7 @@ pub struct Row<'a> {
     question: Question,
 }
 
+// A line that is in the notation.
 #[derive(Drop)]
 pub enum Line<'a> {
     Comment,
@@ -27,7 +28,7 @@ pub enum Line<'a> {
 }
 
 impl<'a> Line<'a> {
-    // A line in the notation.
+    // A line without a colon is a file of the network.
     pub fn read(text: &'a [u8]) -> Option<Self> {
         if text.is_empty() || text.starts_with(b"#") {
             return Some(Line::Comment);

@@ -5,8 +5,8 @@ use arrayvec::ArrayVec;
 // Room for one road more than a network may have.
 const LIST_ROOM: usize = (network::MOST_ROADS + 1) * network::ROAD_BYTES;
 
-// A list of this many steps is none: a number, a byte of it, a count, the end of a group. So it ends
-// although an empty group may stand any number of times.
+// A list of so many steps is refused, since an empty group may have a count of any size: a step is a
+// count, a number, each of its bytes, a cut, the end of a group.
 const MOST_STEPS: usize = 2 * LIST_ROOM;
 
 // The bytes of a list, the least of a number first.
@@ -20,7 +20,7 @@ pub enum Record {
     Entry,
 }
 
-// How a number of a record is stored.
+// The numbers of a record.
 #[derive(Clone, Copy)]
 enum Kind {
     U16,
@@ -50,7 +50,8 @@ struct Listing<'a> {
 }
 
 impl Record {
-    // The kind of the number that begins after so many bytes.
+    // The number that begins after so many bytes: in a road the ends have two each, the consumption
+    // has four.
     fn kind_at(self, size: usize) -> Kind {
         match self {
             Record::Junction => Kind::I32,
@@ -68,26 +69,9 @@ impl Record {
     }
 }
 
-impl Kind {
-    // Adds a number to a file, if it is of this kind and there is room.
-    fn add(self, number: i128, file: &mut File) -> Option<()> {
-        let added = match self {
-            Kind::U16 => file.try_extend_from_slice(&u16::try_from(number).ok()?.to_le_bytes()),
-            Kind::I32 => file.try_extend_from_slice(&i32::try_from(number).ok()?.to_le_bytes()),
-        };
-        added.ok()
-    }
-}
-
 // A list that goes to the line's end.
 pub fn read_list(line: Cursor<'_>, record: Record) -> Option<File> {
-    let mut list = Listing {
-        record,
-        line,
-        group: line,
-        times: 1,
-        file: File::new(),
-    };
+    let mut list = Listing::new(line, record);
     for items in 1..MOST_STEPS {
         if MOST_STEPS - items <= list.file.len() {
             return None;
@@ -107,26 +91,37 @@ pub fn read_list(line: Cursor<'_>, record: Record) -> Option<File> {
 }
 
 impl<'a> Listing<'a> {
-    // Passes what stands next. A count stands before its group, a cut ends the line.
+    // Nothing is read yet.
+    fn new(line: Cursor<'a>, record: Record) -> Self {
+        Listing {
+            record,
+            line,
+            group: line,
+            times: 1,
+            file: File::new(),
+        }
+    }
+
+    // Passes what stands next. A count stands before its group, a cut at the line's end.
     fn next_item(&mut self) -> Option<Item> {
         let is_first = self.line.rest.len() == self.group.rest.len();
         if self.line.byte(b' ').is_none() {
             return Some(Item::GroupEnd);
         }
-        let mut line = self.line;
-        if let Some(n) = line.digits() {
-            if line.rest == b"b".as_slice() {
+        let mut after = self.line;
+        if let Some(n) = after.digits() {
+            if after.rest == b"b".as_slice() {
                 return Some(Item::Cut(n));
             }
-            if is_first && line.byte(b'x').is_some() {
-                self.line = line;
+            if is_first && after.byte(b'x').is_some() {
+                self.line = after;
                 return Some(Item::Times(n));
             }
         }
         self.line.number().map(Item::Number)
     }
 
-    // The group stands so often; a count before a count other than 1 is none.
+    // The group that begins stands so often; no second count but after `1x`.
     fn begin_group(&mut self, times: u64) -> Option<()> {
         if self.times != 1 || times == 0 {
             return None;
@@ -136,10 +131,14 @@ impl<'a> Listing<'a> {
         Some(())
     }
 
-    // The bytes of a number come next.
+    // The bytes of a number, if the record's next number can be it and there is room.
     fn add(&mut self, number: i128) -> Option<()> {
-        let kind = self.record.kind_at(self.file.len());
-        kind.add(number, &mut self.file)
+        let file = &mut self.file;
+        let added = match self.record.kind_at(file.len()) {
+            Kind::U16 => file.try_extend_from_slice(&u16::try_from(number).ok()?.to_le_bytes()),
+            Kind::I32 => file.try_extend_from_slice(&i32::try_from(number).ok()?.to_le_bytes()),
+        };
+        added.ok()
     }
 
     // The first bytes, if there are so many.

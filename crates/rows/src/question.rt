@@ -15,9 +15,10 @@ use std::io;
 // The most entries of a list.
 const MOST_LIST: usize = routes::MOST_ENTRIES + 1;
 
-// The list of a row: a route, or what is lent for roads or for charges.
+// The list of a row: a route, or what is lent for roads or charges.
 type Entries<T> = ArrayVec<T, MOST_LIST>;
 
+// An entry, what it is asked and its list.
 #[derive(Drop)]
 pub enum Question {
     Check,
@@ -52,6 +53,7 @@ impl Question {
     }
 }
 
+// A check has no list.
 fn read_check(line: Cursor<'_>) -> Option<Question> {
     let list: Entries<u16> = read_entries(line)?;
     list.is_empty().then_some(Question::Check)
@@ -92,7 +94,7 @@ fn read_set_off(mut line: Cursor<'_>) -> Option<Question> {
     Some(Question::SetOff(question, read_entries(line)?))
 }
 
-// The list after a comma, or none at the line's end: so many entries as the bytes hold.
+// The list after a comma, or none at the line's end: as many entries as its bytes hold.
 fn read_entries<T: From<u16> + Default + Drop>(mut line: Cursor<'_>) -> Option<Entries<T>> {
     let mut list = Entries::new();
     if line.rest.is_empty() {
@@ -107,6 +109,7 @@ fn read_entries<T: From<u16> + Default + Drop>(mut line: Cursor<'_>) -> Option<E
     Some(list)
 }
 
+// Each entry's answer, as numbers.
 fn check(rt: &impl Print, network: &Network) -> io::Result<()> {
     print_checked(rt, planner::check(&network.junctions, &network.roads))
 }
@@ -149,6 +152,7 @@ fn profile(
     print!(rt; " {number} {place} {need} {sum} {top}")
 }
 
+// The list is lent.
 fn best_route(
     rt: &impl Print,
     network: &Network,
@@ -173,6 +177,7 @@ fn best_route(
     print_list(rt, &lent)
 }
 
+// The list is lent, each entry as a charge.
 fn set_off(
     rt: &impl Print,
     network: &Network,
