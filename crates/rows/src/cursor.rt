@@ -1,5 +1,5 @@
 // How a line is read: from the front, one thing after another.
-ghost use Rattle.std.specs.Prelude.{◌≡◌, ◌∷◌, ◌++◌, OnSome, IfNone};
+ghost use Rattle.std.specs.Prelude.{◌≡◌, ℕ, ◌↔◌, List, ◌∷◌, ◌++◌, IsSome, OnSome, IfNone};
 
 // What is left of a line. Where what is asked for does not stand at its front, the answer is None.
 #[derive(Clone, Copy)]
@@ -10,6 +10,7 @@ pub struct Cursor<'a> {
 impl<'a> Cursor<'a> {
     // Passes a byte.
     pub fn byte(&mut self, b: u8) -> Option<()>
+        ensures variant { IsSome result ↔ ((rest : List ℕ) × (self.old.rest.now ≡ b ∷ rest)) }
         ensures passed { OnSome result (self.old.rest.now ≡ b ∷ self.new.rest.now) }
         ensures stays { IfNone result (self.new ≡ self.old) }
     {
