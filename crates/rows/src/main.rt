@@ -11,15 +11,14 @@
 // numbers given back, and the lent list if there is one; any other line as a bad row.
 #![tactic(auto)]
 
-ghost use Rattle.std.specs.Prelude.{◌≤◌, IfOk, length};
+mod cursor;
+mod line;
+mod list;
+mod question;
 
-mod entries;
-mod files;
-mod notation;
-mod shown;
-
-use files::Network;
-use notation::find;
+use arrayvec::ArrayVec;
+use line::{Line, Network};
+use list::File;
 use std::io;
 use std::io::Read;
 
@@ -27,73 +26,34 @@ use std::io::Read;
 const TEXT_ROOM: usize = 65536;
 
 fn main(rt: HostRuntime) -> io::Result<()> {
-    let mut text = [0u8; TEXT_ROOM];
-    let size = read_full(&mut rt.reader(), &mut text)?;
-    run(&rt, &text[..size])?;
-    if size == TEXT_ROOM {
-        shown::bad_row(&rt, 0)?;
+    let mut text: ArrayVec<u8, TEXT_ROOM> = ArrayVec::new();
+    io::copy(&mut rt.reader().take(TEXT_ROOM as u64), &mut text)?;
+    run(&rt, &text)?;
+    if text.is_full() {
+        bad_row(&rt, 0)?;
     }
     Ok(())
-}
-
-// Reads until the room is full or the input ends, and answers how many bytes came.
-fn read_full(input: &mut impl Read, room: &mut [u8]) -> io::Result<usize>
-    ensures { IfOk result (λ n. n ≤ length room.new) }
-{
-    let mut size = 0;
-    while size < room.len() {
-        let more = input.read(&mut room[size..])?;
-        if more == 0 {
-            break;
-        }
-        size += more;
-    }
-    Ok(size)
 }
 
 // Line by line, from no network.
 fn run(rt: &impl Print, text: &[u8]) -> io::Result<()> {
     let mut network = Network {
-        junctions: text.len(),
-        roads: text.len(),
+        junctions: File::new(),
+        roads: File::new(),
     };
-    let mut at = 0;
-    let mut number = 1;
-    while at < text.len() {
-        let end = find(text, at, b'\n');
-        network = run_line(rt, text, network, &text[at..end], at, number)?;
-        at = end + 1;
-        number += 1;
+    for (number, line) in (1u64..).zip(text.split(|b| *b == b'\n')) {
+        match Line::read(line) {
+            Some(Line::Comment) => (),
+            Some(Line::Junctions(file)) => network.junctions = file,
+            Some(Line::Roads(file)) => network.roads = file,
+            Some(Line::Row(row)) => row.answer(rt, &network)?,
+            None => bad_row(rt, number)?,
+        }
     }
     Ok(())
 }
 
-// A comment, a line of a file or a row; the network after it.
-fn run_line(
-    rt: &impl Print,
-    text: &[u8],
-    network: Network,
-    line: &[u8],
-    at: usize,
-    number: u64,
-) -> io::Result<Network> {
-    if is_comment(line) {
-        return Ok(network);
-    }
-    let colon = find(line, 0, b':');
-    if colon == line.len() {
-        return files::set_file(rt, network, line, at, number);
-    }
-    if !entries::ask(rt, text, network, line, colon)? {
-        shown::bad_row(rt, number)?;
-    }
-    Ok(network)
-}
-
-// Whether a line is skipped.
-fn is_comment(line: &[u8]) -> bool {
-    if line.len() == 0 {
-        return true;
-    }
-    line[0] == b'#'
+// A line that is not in the notation; 0 stands for those that there is no room for.
+fn bad_row(rt: &impl Print, number: u64) -> io::Result<()> {
+    println!(rt; "bad row {number}")
 }

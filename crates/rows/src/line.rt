@@ -1,0 +1,65 @@
+// What a line is: a comment, a file of the network or a row.
+use crate::cursor::Cursor;
+use crate::list::{File, Record, read_list};
+use crate::question::Question;
+use std::io;
+
+// The two files that rows are asked of.
+#[derive(Drop)]
+pub struct Network {
+    pub junctions: File,
+    pub roads: File,
+}
+
+// A row: its name, and what is asked.
+#[derive(Drop)]
+pub struct Row<'a> {
+    name: &'a [u8],
+    question: Question,
+}
+
+// A line that is in the notation.
+#[derive(Drop)]
+pub enum Line<'a> {
+    Comment,
+    Junctions(File),
+    Roads(File),
+    Row(Row<'a>),
+}
+
+impl<'a> Line<'a> {
+    // A line without a colon is a file of the network.
+    pub fn read(text: &'a [u8]) -> Option<Self> {
+        if text.is_empty() || text.starts_with(b"#") {
+            return Some(Line::Comment);
+        }
+        let mut line = Cursor { rest: text };
+        if text.contains(&b':') {
+            return Some(Line::Row(Row::read(line)?));
+        }
+        match line.until(|b| *b == b' ') {
+            b"junctions" => Some(Line::Junctions(read_list(line, Record::Junction)?)),
+            b"roads" => Some(Line::Roads(read_list(line, Record::Road)?)),
+            _ => None,
+        }
+    }
+}
+
+impl<'a> Row<'a> {
+    // The name up to the colon, and the question after a space.
+    fn read(mut line: Cursor<'a>) -> Option<Self> {
+        let name = line.until(|b| *b == b':');
+        line.byte(b':')?;
+        line.byte(b' ')?;
+        let question = Question::read(line)?;
+        Some(Row { name, question })
+    }
+
+    // Prints the row: its name and what is given back.
+    pub fn answer(self, rt: &impl Print, network: &Network) -> io::Result<()> {
+        rt.write_all(self.name)?;
+        print!(rt; ":")?;
+        self.question.answer(rt, network)?;
+        println!(rt; "")
+    }
+}
