@@ -8,7 +8,7 @@ use promises::{
     CheckNumbers, DriveNumbers, DriveQuestion, PlanNumbers, PlanQuestion, ProfileNumbers,
     ProfileQuestion, SetOffQuestion,
 };
-use refusals::Checked;
+use refusals::Refusal;
 use std::fmt::Display;
 use std::io;
 
@@ -127,7 +127,7 @@ fn drive(
         drawn,
         recovered,
         spilled,
-    } = planner::drive_numbers(planner::drive(&network.junctions, &network.roads, question, route));
+    } = planner::drive(&network.junctions, &network.roads, question, route).into();
     print!(rt; " {number} {place} {arrival} {drawn} {recovered} {spilled}")
 }
 
@@ -143,12 +143,7 @@ fn profile(
         need,
         sum,
         top,
-    } = planner::profile_numbers(planner::profile(
-        &network.junctions,
-        &network.roads,
-        question,
-        route,
-    ));
+    } = planner::profile(&network.junctions, &network.roads, question, route).into();
     print!(rt; " {number} {place} {need} {sum} {top}")
 }
 
@@ -167,12 +162,7 @@ fn best_route(
         drawn,
         recovered,
         spilled,
-    } = planner::plan_numbers(planner::best_route(
-        &network.junctions,
-        &network.roads,
-        question,
-        &mut lent,
-    ));
+    } = planner::best_route(&network.junctions, &network.roads, question, &mut lent).into();
     print!(rt; " {number} {place} {roads} {arrival} {drawn} {recovered} {spilled}")?;
     print_list(rt, &lent)
 }
@@ -190,8 +180,8 @@ fn set_off(
 }
 
 // Number and place of a check.
-fn print_checked(rt: &impl Print, checked: Checked) -> io::Result<()> {
-    let CheckNumbers { number, place } = planner::check_numbers(checked);
+fn print_checked(rt: &impl Print, checked: Result<(), Refusal>) -> io::Result<()> {
+    let CheckNumbers { number, place } = checked.into();
     print!(rt; " {number} {place}")
 }
 
