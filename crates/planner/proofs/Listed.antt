@@ -23,11 +23,6 @@ use Rattle.planner.proofs.Searching.{BestWalk}
 use Rattle.refusals.specs.declared.Refusal.{Refusal}
 use Rattle.promises.specs.declared.Route.{Route}
 
-module _ (ns rs : List ℕ) (q : PlanQuestion) (list : List ℕ) (passed : plan_fault ns rs q (length list) ≡ Ok tt)
-    (count : ℕ) (list' : List ℕ) (w : BestWalk ns rs q list count list') where
-  pub count_le : count ≤ length list'
-  count_le = omega (arith, w.count_is, ap length w.list_is, length-append w.by (drop (length w.by) list))
-
   -- the first entries are the route
   front : take count list' ≡ w.by
   front = (λ i. take (w.count_is i) (w.list_is i)) ∙ take-append_seam w.by (drop (length w.by) list)

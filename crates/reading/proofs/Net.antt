@@ -3,16 +3,15 @@
 use mathlib.Core.Path.{◌≡◌, refl, ap, ◌∙◌}
 use mathlib.Core.List.{List, reverse}
 use Prim.Native.Nat.{ℕ, ◌≤◌, ◌<◌}
-use lib.IntN.{ℤ}
 use Rattle.battery.specs.declared.Battery.{Battery}
 use Rattle.battery.specs.declared.Road.{Road}
 use Rattle.network.proofs.Records.{Sound, all_sound, all_ranged}
-use Rattle.network.specs.Files.{junctions, road_count, road_of, potential}
+use Rattle.network.specs.Files.{junctions, road_count, road_of}
 use Rattle.journeys.specs.Walks.{Walk}
 use Rattle.walks.proofs.Turned.{walk_turned}
 use Rattle.walks.specs.Walk as walk
 use Rattle.reading.specs.Asks.{Readable, StepAsks}
-use Rattle.reading.specs.Reading.{backward, most_label, entered, left, step_of, psi_of, psi, net}
+use Rattle.reading.specs.Reading.{backward, most_label, entered, left, step_of, net}
 use Rattle.reading.specs.declared.Reading.{Reading}
 use Rattle.reading.specs.declared.Sense.{Sense}
 use Rattle.reading.specs.declared.Sense.TheVariants.{Forward, Backward}
@@ -35,9 +34,6 @@ module _ (rd : Reading) (rs : List ℕ) (k : ℕ) (r : Road) (road_is : r ≡ ro
   pub step_at : (l : ℕ) {x : ℕ} → x ≡ step_of rd.sense rd.battery r l → x ≡ (net rd rs).step k l
   unfolding net
   step_at l e = e ∙ ap (λ (q : Road). step_of rd.sense rd.battery q l) road_is
-
-pub psi_at : (rd : Reading) (ns : List ℕ) (v : ℕ) {x : ℕ} {p : ℤ} → p ≡ potential ns v → x ≡ psi_of rd.sense p → x ≡ psi rd ns v
-psi_at rd ns v p_is e = e ∙ ap (psi_of rd.sense) p_is
 
 -- ---- the roads of checked files
 

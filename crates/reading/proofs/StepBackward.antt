@@ -6,7 +6,7 @@ use Prim.Native.Nat.{ℕ, zero, suc, ◌+◌, ◌-◌, ◌*◌, ◌≤◌, ◌<�
 use native.Mathlib.Omega.{arith}
 use borrow.Author.Tests.{leb-true, leb-false, ltb-false}
 use lib.Dec.{leb, ltb}
-use lib.IntN.{ℤ, pos, negsuc}
+use lib.IntN.{ℤ}
 use Rattle.numbers.proofs.Diff.{diff_self, diff_minus, draw_of}
 use Rattle.numbers.specs.Bytes.{u32_at, signed32, signed_pick}
 use Rattle.numbers.specs.Signed.{draw, gain}
@@ -45,11 +45,6 @@ backward_capped B r = record { none = refl; some = some }
         → step_backward B r l ≡ min (l + gain r.consumption - draw r.consumption) (B.size + 1 - draw r.consumption)
     some zero h = absurd (omega arith)
     some (suc x) h = go x (drivable B x r) (leb (needs B r) B.size) (drivable_is B x r) refl
-
--- a road that needs something gives nothing, so that its need is below the label
-pub need_below : (c : ℤ) (l : ℕ) → 0 < l → draw c < l + gain c → draw c < l
-need_below (pos n) l h f = omega arith
-need_below (negsuc n) l h f = omega arith
 
 -- ---- the number of a junction. Potentials have 32 bits
 
