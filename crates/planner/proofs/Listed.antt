@@ -1,11 +1,11 @@
 -- The route that was found: it stands at the front of the list, it is driven without a fault, and so best route keeps its promise.
 -- Assumes nothing.
 use Rattle.std.specs.Prelude.{Ok, Result, Some}
-use mathlib.Core.Path.{◌≡◌, sym, ap, ◌∙◌}
+use mathlib.Core.Path.{◌≡◌, sym, ◌∙◌}
 use mathlib.Core.List.{List}
-use Prim.Native.Nat.{ℕ, ◌≤◌}
+use Prim.Native.Nat.{ℕ}
 use native.Mathlib.Omega.{arith}
-use lib.ListN.{length, take, drop, length-append}
+use lib.ListN.{length, take, drop}
 use lib.Seq.{take-append_seam}
 use Rattle.numbers.specs.Signed.{draw}
 use Rattle.battery.specs.Drive.{drive_all}
@@ -23,6 +23,8 @@ use Rattle.planner.proofs.Searching.{BestWalk}
 use Rattle.refusals.specs.declared.Refusal.{Refusal}
 use Rattle.promises.specs.declared.Route.{Route}
 
+module _ (ns rs : List ℕ) (q : PlanQuestion) (list : List ℕ) (passed : plan_fault ns rs q (length list) ≡ Ok tt)
+    (count : ℕ) (list' : List ℕ) (w : BestWalk ns rs q list count list') where
   -- the first entries are the route
   front : take count list' ≡ w.by
   front = (λ i. take (w.count_is i) (w.list_is i)) ∙ take-append_seam w.by (drop (length w.by) list)
