@@ -1,12 +1,10 @@
 // The battery rule: a van and a road give the next van. Charges and consumptions are in mWh.
 #![tactic(auto)]
 
-ghost use Rattle.std.specs.Prelude.{◌≡◌, ◌-◌, ◌≤◌, max};
-ghost use Rattle.numbers.specs.Signed.{draw};
+ghost use Rattle.std.specs.Prelude.{◌≡◌};
 ghost use Rattle.battery.specs.Drive.{fresh, drive};
 ghost use Rattle.battery.specs.Profile.{no_roads, followed_by, one_road};
 ghost use Rattle.battery.specs.Ready.{Ready, Extends};
-ghost use Rattle.battery.specs.Rule.{most_battery};
 
 // The limits of document 01, in mWh.
 pub const MOST_BATTERY: i64 = 200000000;

@@ -1,9 +1,9 @@
 // Numbers as the two files store them, and signed numbers taken apart into naturals.
 #![tactic(auto)]
 
-ghost use Rattle.std.specs.Prelude.{◌≡◌, true, ◌+◌, ◌*◌, ◌^◌, ◌≤◌, ◌<◌, pos, length};
+ghost use Rattle.std.specs.Prelude.{◌≡◌, true, ◌+◌, ◌^◌, ◌≤◌, ◌<◌, pos, length};
 ghost use Rattle.std.specs.Int.Signed.{le_z};
-ghost use Rattle.numbers.specs.Bytes.{u16_at, u32_at, i32_at, signed32};
+ghost use Rattle.numbers.specs.Bytes.{u16_at, i32_at};
 ghost use Rattle.numbers.specs.Signed.{draw, gain};
 
 // The 16-bit number at byte i, least byte first.
