@@ -1,7 +1,7 @@
-use Rattle.std.proofs.Common.{◌≡◌, sym, ◌∙◌, subst, rules, Err}
+use Rattle.std.proofs.Common.{◌≡◌, sym, subst, rules, Err}
 use Rattle.promises.specs.Given.{plan_numbers}
 use Rattle.promises.specs.Promises.{Plans}
-use Rattle.promises.proofs.Bits.{battery_bits, start_bits, van_back}
+use Rattle.promises.proofs.Bits.{battery_bits, start_bits}
 use Rattle.promises.proofs.Passed.{plan_passed}
 use Rattle.planner.proofs.best_route.Goals as goal
 
@@ -17,10 +17,3 @@ van_of-van-requires c =
     let q = c.args.question in
     let d = plan_passed _ _ _ _ (sym c.in_ok-check_plan.ensures) in
     (battery_bits q.battery d.battery_ok, start_bits q.battery q.start d.battery_ok d.start_ok)
-
-pub plan-requires : goal.plan-requires
-plan-requires c =
-    let q = c.args.question in
-    let passed = sym c.in_ok-check_plan.ensures in
-    let d = plan_passed _ _ _ _ passed in
-    record { passed = passed; van_is = c.van_of-van.ensures ∙ van_back q.battery q.start d.battery_ok d.start_ok }

@@ -4,7 +4,7 @@ use Rattle.promises.specs.Promises.{Drives}
 use Rattle.battery.specs.declared.Van.{Van}
 use Rattle.routes.specs.Steps.{DriveAsks, DriveKeeps}
 use Rattle.promises.specs.Order.{van_of}
-use Rattle.promises.proofs.Bits.{battery_bits, start_bits, van_back}
+use Rattle.promises.proofs.Bits.{van_back}
 use Rattle.promises.proofs.Passed.{drive_passed}
 use Rattle.planner.proofs.Entries.{drive_refused, drive_asks, drive_kept}
 use Rattle.planner.proofs.drive.Goals as goal
@@ -15,13 +15,6 @@ returns-in_err-check_drive c =
     let e : c.from_residual.result ≡ Err c.in_err-check_drive.field-0.0 = search rules in
     subst (λ r. Drives a.nodes.now a.roads.now a.question a.route.now (drive_numbers r)) (sym e)
     (drive_refused a.nodes.now a.roads.now a.question a.route.now (sym c.in_err-check_drive.ensures))
-
-pub van_of-van-requires : goal.van_of-van-requires
-van_of-van-requires c =
-    let a = c.args in
-    let q = a.question in
-    let d = drive_passed a.nodes.now a.roads.now q (length a.route.now) (sym c.in_ok-check_drive.ensures) in
-    (battery_bits q.battery d.0.battery_ok, start_bits q.battery q.start d.0.battery_ok d.1)
 
 pub drive_route-requires : goal.drive_route-requires
 drive_route-requires c =

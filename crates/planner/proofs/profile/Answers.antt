@@ -3,7 +3,7 @@ use Rattle.promises.specs.Given.{profile_numbers}
 use Rattle.promises.specs.Promises.{Profiles}
 use Rattle.battery.specs.declared.Battery.{Battery}
 use Rattle.routes.specs.Steps.{ProfileAsks, ProfileKeeps}
-use Rattle.promises.proofs.Bits.{battery_back, battery_bits}
+use Rattle.promises.proofs.Bits.{battery_back}
 use Rattle.promises.proofs.Passed.{profile_passed}
 use Rattle.planner.proofs.Entries.{profile_refused, profile_asks, profile_kept}
 use Rattle.planner.proofs.profile.Goals as goal
@@ -14,12 +14,6 @@ returns-in_err-check_profile c =
     let e : c.from_residual.result ≡ Err c.in_err-check_profile.field-0.0 = search rules in
     subst (λ r. Profiles a.nodes.now a.roads.now a.question a.route.now (profile_numbers r)) (sym e)
     (profile_refused a.nodes.now a.roads.now a.question a.route.now (sym c.in_err-check_profile.ensures))
-
-pub battery_of-battery-requires : goal.battery_of-battery-requires
-battery_of-battery-requires c =
-    let a = c.args in
-    let d = profile_passed a.nodes.now a.roads.now a.question (length a.route.now) (sym c.in_ok-check_profile.ensures) in
-    battery_bits a.question.battery d.battery_ok
 
 pub profile_route-requires : goal.profile_route-requires
 profile_route-requires c =
