@@ -1,11 +1,8 @@
 use Rattle.std.proofs.Common.{◌≡◌, sym, ap, ◌∙◌, subst, rules, ◌+◌, Err}
 use Rattle.routes.specs.Gauges.{Follows, passed}
-use Rattle.routes.proofs.Following.{Underway, underway_start, not_entered, not_passed, underway_on, followed}
+use Rattle.routes.proofs.Following.{Underway, not_entered, not_passed, underway_on, followed}
 use Rattle.routes.proofs.Places.{is_road}
 use Rattle.routes.proofs.follow.Goals as goal
-
-pub loop-i-init : goal.loop-i-init
-loop-i-init g c = underway_start g.met.G.Gauge.laws c.requires
 
 pub road_at-road-requires : goal.road_at-road-requires
 road_at-road-requires g c = is_road _ _ _ _ (sym c.in_ok-enter.ensures)
