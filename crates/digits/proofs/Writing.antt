@@ -1,50 +1,11 @@
--- Text put into the buffer: byte by byte, text after text, the whole. Assumes nothing.
-use mathlib.Core.Path.{◌≡◌, refl, sym, ap, ◌∙◌, subst}
-use mathlib.Core.List.{List, [], ◌∷◌, ◌++◌, append_assoc, append-nil}
-use Prim.Native.Nat.{ℕ, suc, ◌+◌, ◌≤◌, ◌<◌}
+-- Text put into the buffer: text after text, the whole. Assumes nothing.
+use mathlib.Core.Path.{◌≡◌, sym, ap, ◌∙◌, subst}
+use mathlib.Core.List.{List, [], ◌++◌, append_assoc, append-nil}
+use Prim.Native.Nat.{ℕ}
 use native.Mathlib.Nat.{add-zero}
-use native.Mathlib.Numerals.{add-one}
 use native.Mathlib.Omega.{arith}
-use lib.ListN.{length, take, set, get_or, length-append, length-take, length-set}
-use lib.Seq.{take-suc, take-suc-set, take-length}
+use lib.ListN.{length, take, length-append, length-take}
 use Rattle.digits.specs.Puts.{Puts, Written}
-
--- the first i bytes of a word are put
-pub record Putting (o : List ℕ) (from : ℕ) (word o' : List ℕ) (i : ℕ) : Type 0 where
-  pub some : i ≤ length word
-  pub same : length o' ≡ length o
-  pub text : take (from + i) o' ≡ take from o ++ take i word
-
-pub putting_none : (o : List ℕ) (from : ℕ) (word : List ℕ) → Putting o from word o 0
-putting_none o from word =
-    record { some = omega arith; same = refl; text = ap (λ (k : ℕ). take k o) (add-zero from) ∙ sym (append-nil (take from o)) }
-
-pub putting_more : {o : List ℕ} {from : ℕ} {word o' : List ℕ} {i : ℕ} → Putting o from word o' i → i < length word
-    → from + length word ≤ length o → Putting o from word (set o' (from + i) (get_or word i 0)) (i + 1)
-putting_more {o} {from} {word} {o'} {i} p h room =
-    let s = p.same in
-    let e : from + (i + 1) ≡ suc (from + i) = omega arith in
-    let a = take-suc-set o' (from + i) (get_or word i 0) (omega arith) in
-    let b = take-suc word i 0 h in
-    let c = append_assoc (take from o) (take i word) (get_or word i 0 ∷ []) in
-    record {
-      some = omega arith;
-      same = length-set o' (from + i) (get_or word i 0) ∙ s;
-      text =
-          ap (λ (k : ℕ). take k (set o' (from + i) (get_or word i 0))) e ∙ a
-          ∙ ap (λ (t : List ℕ). t ++ (get_or word i 0 ∷ [])) p.text ∙ c
-          ∙ ap (λ (t : List ℕ). take from o ++ t) (sym b ∙ ap (λ (k : ℕ). take k word) (sym (add-one i)));
-    }
-
-pub putting_all : {o : List ℕ} {from : ℕ} {word o' : List ℕ} {i : ℕ} → Putting o from word o' i → length word ≤ i
-    → Puts o from word o' (from + i)
-putting_all {o} {from} {word} {o'} {i} p h =
-    let s = p.some in
-    let e : i ≡ length word = omega arith in
-    record {
-      next = ap (λ (k : ℕ). from + k) e;
-      text = p.text ∙ ap (λ (t : List ℕ). take from o ++ t) (ap (λ (k : ℕ). take k word) e ∙ take-length word);
-    }
 
 -- nothing, and one text after another
 pub puts_none : (o : List ℕ) (from : ℕ) → Puts o from [] o from

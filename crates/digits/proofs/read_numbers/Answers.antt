@@ -21,4 +21,4 @@ loop-i-preserved c =
       | then-i-count w ↦ w.end-is ∙ sym (ap end_of (lt-ltb _ _ w.if-i-count.true))
       | else-i-count w ↦ w.end-is ∙ sym (ap end_of (le-ltb _ _ w.if-i-count.false))
     ] in
-    reading_more c.args.line.now _ c.loop-i.invariant c.loop-i-test.true ending c.in-Number.ensures
+    reading_more c.args.line.now _ c.loop-i.invariant c.loop-i-test.true ending c.in-Some.ensures
