@@ -1,34 +1,40 @@
 -- Text put into the buffer: text after text, the whole. Assumes nothing.
-use mathlib.Core.Path.{◌≡◌, sym, ap, ◌∙◌, subst}
+use mathlib.Core.Path.{◌≡◌, refl, sym, ap, ◌∙◌, subst}
 use mathlib.Core.List.{List, [], ◌++◌, append_assoc, append-nil}
 use Prim.Native.Nat.{ℕ}
 use native.Mathlib.Nat.{add-zero}
 use native.Mathlib.Omega.{arith}
 use lib.ListN.{length, take, length-append, length-take}
-use Rattle.digits.specs.Puts.{Puts, Written}
+use Rattle.digits.specs.declared.Text.{Text}
+use Rattle.digits.specs.Puts.{IsEmpty, bytes, Puts, Written}
 
 -- nothing, and one text after another
-pub puts_none : (o : List ℕ) (from : ℕ) → Puts o from [] o from
-puts_none o from = record { next = sym (add-zero from); text = sym (append-nil (take from o)) }
+pub puts_none : (x : Text) → Puts x [] x
+puts_none x = record { same_reference = refl; same_room = refl; len = sym (add-zero x.len); text = sym (append-nil (bytes x)) }
 
-pub puts_then : {o o' o'' t u : List ℕ} {from m to : ℕ} → Puts o from t o' m → Puts o' m u o'' to → Puts o from (t ++ u) o'' to
-puts_then {o} {t} {u} {from} p q =
+pub puts_then : {x x' x'' : Text} {t u : List ℕ} → Puts x t x' → Puts x' u x'' → Puts x (t ++ u) x''
+puts_then {x} {t} {u} p q =
     let l = length-append t u in
-    let a = p.next in
-    let b = q.next in
+    let a = p.len in
+    let b = q.len in
     record {
-      next = omega arith;
-      text = q.text ∙ ap (λ (x : List ℕ). x ++ u) p.text ∙ append_assoc (take from o) t u;
+      same_reference = q.same_reference ∙ p.same_reference;
+      same_room = q.same_room ∙ p.same_room;
+      len = omega arith;
+      text = q.text ∙ ap (λ (y : List ℕ). y ++ u) p.text ∙ append_assoc (bytes x) t u;
     }
 
 -- the same text, told otherwise
-pub puts_as : {o t u o' : List ℕ} {from to : ℕ} → t ≡ u → Puts o from t o' to → Puts o from u o' to
-puts_as {o} {o'} {from} {to} e p = subst (λ (t : List ℕ). Puts o from t o' to) e p
+pub puts_as : {x x' : Text} {t u : List ℕ} → t ≡ u → Puts x t x' → Puts x u x'
+puts_as {x} {x'} e p = subst (λ (t : List ℕ). Puts x t x') e p
 
 -- the whole text, from the buffer's start
-pub puts_written : {o t o' : List ℕ} {to : ℕ} → Puts o 0 t o' to → Written t o' to
-puts_written {t} {o'} {to} p =
-    let a = p.next in
-    let b : length (take to o') ≡ length t = ap length p.text in
-    let c = length-take to o' in
-    record { counts = (omega arith, omega arith); text = p.text }
+pub puts_written : {o t : List ℕ} {x x' : Text} → IsEmpty o x → Puts x t x' → Written t x'.out.now x'.len
+puts_written {t} {x} {x'} n p =
+    let a = p.len in
+    let z = n.none in
+    let l = length-take x'.len x'.out.now in
+    let e : bytes x ≡ [] = ap (λ (k : ℕ). take k x.out.now) z in
+    let b : bytes x' ≡ t = p.text ∙ ap (λ (y : List ℕ). y ++ t) e in
+    let c = ap length b in
+    record { counts = (omega arith, omega arith); text = b }

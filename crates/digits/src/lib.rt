@@ -2,12 +2,12 @@
 // lent buffer. Opening files, reading and writing them is the programs' own.
 #![tactic(auto)]
 
-ghost use Rattle.std.specs.Prelude.{◌+◌, ◌≤◌, MatchOption};
+ghost use Rattle.std.specs.Prelude.{◌≡◌, ◌+◌, ◌≤◌, MatchOption};
 ghost use lib.ListN;
 ghost use lib.ListN.{length};
 ghost use Rattle.digits.specs.Decimal.{decimal, number_line, word_line, signed_line};
 ghost use Rattle.digits.specs.Taking.{NoDigit, Ran, Takes, NoNumber, ReadsNumbers};
-ghost use Rattle.digits.specs.Puts.{Puts, PutsFew};
+ghost use Rattle.digits.specs.Puts.{IsEmpty, HasRoom, Puts, PutsFew, Written};
 
 // The most digits of a number that is read.
 pub const MOST_DIGITS: usize = 10;
@@ -59,52 +59,76 @@ fn take_digits(line: &[u8]) -> (u64, usize)
     (number, most)
 }
 
-// The writers: each puts its text into the buffer from a place on, and answers the place after it.
-
-// A word, a space and a number, on a line.
-pub fn put_word_line(out: &mut [u8], from: usize, word: &[u8], n: u64) -> usize
-    requires { from + length word.now + 22 ≤ length out.old }
-    ensures { PutsFew (length word.now + 22) out.old from (word_line word.now n) out.new result }
-{
-    let mut at = put(out, from, word);
-    at = put(out, at, b" ");
-    put_number_line(out, at, n)
+// A text that grows at the start of a lent buffer, which must have the room.
+#[derive(Drop)]
+pub struct Text<'a> {
+    out: &'a mut [u8],
+    len: usize,
 }
 
-// A number on a line of its own.
-pub fn put_number_line(out: &mut [u8], from: usize, n: u64) -> usize
-    requires { from + 21 ≤ length out.old }
-    ensures { PutsFew 21 out.old from (number_line n) out.new result }
-{
-    let at = put_decimal(out, from, n);
-    put(out, at, b"\n")
-}
+impl<'a> Text<'a> {
+    // No text yet.
+    pub fn new(out: &'a mut [u8]) -> Text<'a>
+        ensures same_reference { result.out.ghost_name ≡ out.entry.ghost_name }
+        ensures empty { IsEmpty out.old result }
+    {
+        Text { out, len: 0 }
+    }
 
-// A signed number on a line: a minus sign and its size, or the number.
-pub fn put_signed_line(out: &mut [u8], from: usize, n: i32) -> usize
-    requires { from + 22 ≤ length out.old }
-    ensures { PutsFew 12 out.old from (signed_line n) out.new result }
-{
-    let at = if n < 0 { put(out, from, b"-") } else { from };
-    put_number_line(out, at, u64::from(n.unsigned_abs()))
-}
+    // How many bytes at the buffer's start are the text.
+    pub fn len(&self) -> usize
+        ensures { result ≡ self.now.len }
+    {
+        self.len
+    }
 
-// A number in decimal digits, without leading zeros.
-pub fn put_decimal(out: &mut [u8], from: usize, n: u64) -> usize
-    requires { from + 20 ≤ length out.old }
-    ensures { PutsFew 20 out.old from (decimal n) out.new result }
-{
-    let mut digits = [0u8; 20];
-    let k = io::decimal(n, &mut digits);
-    put(out, from, &digits[..k])
-}
+    // The bytes of a word.
+    pub fn put(&mut self, word: &[u8])
+        requires { HasRoom self.old (length word.now) }
+        ensures { Puts self.old word.now self.new }
+    {
+        let to = self.len + word.len();
+        self.out[self.len..to].copy_from_slice(word);
+        self.len = to;
+    }
 
-// The bytes of a word.
-pub fn put(out: &mut [u8], from: usize, word: &[u8]) -> usize
-    requires { from + length word.now ≤ length out.old }
-    ensures { Puts out.old from word.now out.new result }
-{
-    let to = from + word.len();
-    out[from..to].copy_from_slice(word);
-    to
+    // A number in decimal digits, without leading zeros.
+    pub fn put_decimal(&mut self, n: u64)
+        requires { HasRoom self.old 20 }
+        ensures { PutsFew 20 self.old (decimal n) self.new }
+    {
+        let mut digits = [0u8; 20];
+        let k = io::decimal(n, &mut digits);
+        self.put(&digits[..k]);
+    }
+
+    // A number on a line of its own.
+    pub fn put_number_line(&mut self, n: u64)
+        requires { HasRoom self.old 21 }
+        ensures { PutsFew 21 self.old (number_line n) self.new }
+    {
+        self.put_decimal(n);
+        self.put(b"\n");
+    }
+
+    // A signed number on a line: a minus sign and its size, or the number.
+    pub fn put_signed_line(&mut self, n: i32)
+        requires { HasRoom self.old 22 }
+        ensures { PutsFew 12 self.old (signed_line n) self.new }
+    {
+        if n < 0 {
+            self.put(b"-");
+        }
+        self.put_number_line(u64::from(n.unsigned_abs()));
+    }
+
+    // A word, a space and a number, on a line.
+    pub fn put_word_line(&mut self, word: &[u8], n: u64)
+        requires { HasRoom self.old (length word.now + 22) }
+        ensures { PutsFew (length word.now + 22) self.old (word_line word.now n) self.new }
+    {
+        self.put(word);
+        self.put(b" ");
+        self.put_number_line(n);
+    }
 }

@@ -7,8 +7,8 @@ use mir.Facts.{to_z-of_z}
 use Rattle.digits.specs.Decimal.{minus, number_line, signed_line}
 use Rattle.digits.proofs.Decimal.{wide_line}
 use Rattle.digits.proofs.Writing.{puts_then, puts_as}
-use Rattle.digits.proofs.put_signed_line.Goals as goal
-use Rattle.digits.proofs.put_signed_line.Goals.{then-n-lt0, else-n-lt0}
+use Rattle.digits.proofs.Text.put_signed_line.Goals as goal
+use Rattle.digits.proofs.Text.put_signed_line.Goals.{then-n-lt0, else-n-lt0}
 
 negative_line : (z : ℤ) → lt_z z (pos 0) ≡ true → minus ∷ number_line (nat_abs z) ≡ signed_line z
 negative_line (pos n) h = absurd (omega (arith, ltb-true n 0 h))
@@ -26,17 +26,17 @@ returns c =
     let line = c.put_number_line.ensures.puts in
     elim c.if-n-lt0.branch [
       | then-n-lt0 w ↦
-          let all = puts_then w.put-at.ensures (rw (w.out-is, w.at-is) at line) in
+          let all = puts_then w.put.ensures (rw w.self-is at line) in
           let below = simp back at w.if-n-lt0.true in
           record {
             puts = puts_as (ap (λ (n : ℕ). minus ∷ number_line n) size ∙ negative_line c.args.n below) all;
-            few = omega (arith, all.next);
+            few = omega (arith, all.len);
           }
       | else-n-lt0 w ↦
-          let all = rw (w.out-is, w.at-is) at line in
+          let all = rw w.self-is at line in
           let above = simp back at w.if-n-lt0.false in
           record {
             puts = puts_as (ap number_line size ∙ other_line c.args.n above) all;
-            few = omega (arith, all.next);
+            few = omega (arith, all.len);
           }
     ]
