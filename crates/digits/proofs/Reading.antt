@@ -11,7 +11,7 @@ use lib.Dec.{ltb}
 use lib.ListN.{length, take, drop, get_or, set, length-drop, length-set}
 use lib.Seq.{drop-cons, take_all, take-suc-set}
 use Rattle.digits.specs.Line.{space, newline, Line, last, then}
-use Rattle.digits.specs.Taking.{NoDigit, Takes, NoNumber, ReadsNumbers}
+use Rattle.digits.specs.Taking.{NoDigit, Takes, NoNumber, NoLine}
 use Rattle.digits.proofs.Spelled.{cut}
 
 -- the byte after a number of the line: a space where there are more, and after the last a newline
@@ -68,7 +68,7 @@ module _ (line : List ℕ) (count : ℕ) where
       subst (λ (b : ℕ). Leads b (get_or ms i 0) (drop (suc i) ms) rest) (end_left i _ left ∙ sym e) (leads here)
 
   pub reading_stuck : {ns rest : List ℕ} {i e : ℕ} → Reading ns i rest → i < count → e ≡ end_of (ltb (i + 1) count)
-      → NoNumber rest e → (ms : List ℕ) → length ms ≡ count → Line ms line → ⊥
+      → NoNumber rest e → NoLine line count
   reading_stuck {i} r h e none ms l m = let p = at_place r h e ms l m in none (get_or ms i 0) p.rest p.first
 
   pub reading_more : {ns rest after : List ℕ} {i e n : ℕ} → Reading ns i rest → i < count → e ≡ end_of (ltb (i + 1) count)
@@ -104,8 +104,3 @@ module _ (line : List ℕ) (count : ℕ) where
           let all : set ns i n ≡ take i ns ++ (n ∷ []) =
           sym (take_all (suc i) (set ns i n) (omega (arith, length-set ns i n, r.long))) ∙ put in
           rw all ((r.going h).joins (n ∷ []) (last ended.text after ended.number ended.there))
-
-  -- ---- what the reader says where none stands
-  pub reads_none : {ns rest : List ℕ} {i e : ℕ} (xs : List ℕ) → Reading ns i rest → i < count → e ≡ end_of (ltb (i + 1) count)
-      → NoNumber rest e → ReadsNumbers line count false xs
-  reads_none xs r h e t = record { yes = λ z. let n : ◌≡◌ {A = ℕ} 0 1 = cc in absurd (omega arith); no = λ z. reading_stuck r h e t }

@@ -1,5 +1,5 @@
 -- What the reader's functions ask and keep. No promise cites it.
-use Rattle.std.specs.Prelude.{◌≡◌, Bool, true, false, List, ◌∷◌, ◌++◌, ◌⊎◌, ℕ, ◌≤◌, length, take, get_or}
+use Rattle.std.specs.Prelude.{◌≡◌, List, ◌∷◌, ◌++◌, ◌⊎◌, ℕ, ◌≤◌, length, take, get_or}
 use Rattle.digits.specs.Digits.{AllDigits, spelled}
 use Rattle.digits.specs.Line.{Number, Line}
 
@@ -29,7 +29,6 @@ pub record Takes (s : List ℕ) (e n : ℕ) (rest : List ℕ) : Type 0 where
 abbrev pub NoNumber : List ℕ → ℕ → Type 0
 NoNumber s e = (n : ℕ) (rest : List ℕ) → Takes s e n rest → ⊥
 
--- whether the bytes begin with a line of so many numbers, which are given
-pub record ReadsNumbers (line : List ℕ) (count : ℕ) (r : Bool) (ns : List ℕ) : Type 0 where
-  pub yes : r ≡ true → Line ns line
-  pub no : r ≡ false → (ms : List ℕ) → length ms ≡ count → Line ms line → ⊥
+-- .. with no line of so many numbers
+abbrev pub NoLine : List ℕ → ℕ → Type 0
+NoLine s count = (ns : List ℕ) → length ns ≡ count → Line ns s → ⊥

@@ -6,29 +6,28 @@ ghost use Rattle.std.specs.Prelude.{◌≡◌, ◌+◌, ◌≤◌, MatchOption};
 ghost use lib.ListN;
 ghost use lib.ListN.{length};
 ghost use Rattle.digits.specs.Decimal.{decimal, number_line, word_line, signed_line};
-ghost use Rattle.digits.specs.Taking.{NoDigit, Ran, Takes, NoNumber, ReadsNumbers};
+ghost use Rattle.digits.specs.Line.{Line};
+ghost use Rattle.digits.specs.Taking.{NoDigit, Ran, Takes, NoNumber, NoLine};
 ghost use Rattle.digits.specs.Puts.{IsEmpty, HasRoom, Puts, PutsFew, Written};
 
 // The most digits of a number that is read.
 pub const MOST_DIGITS: usize = 10;
 
-// Whether the bytes begin with a line of as many numbers as the list has entries: each of one to ten
-// decimal digits (leading zeros allowed), one space between and a newline after. Then the list holds
-// them. What follows the line does not matter, and no line is one of no numbers.
-pub fn read_numbers(line: &[u8], list: &mut [u64]) -> bool
-    ensures { ReadsNumbers line.now (length list.old) result list.new }
+// The numbers of the line with which the bytes begin, if they do: each of one to ten decimal digits
+// (leading zeros allowed), one space between and a newline after. What follows the line does not
+// matter, and no line is one of no numbers.
+pub fn read_numbers<const COUNT: usize>(line: &[u8]) -> Option<[u64; COUNT]>
+    ensures { MatchOption result (NoLine line.now COUNT) (λ ns. (length ns ≡ COUNT) × Line ns line.now) }
 {
-    let count = list.len();
+    let mut numbers = [0; COUNT];
     let mut rest = line;
-    for (i, x) in list.iter_mut().enumerate() {
-        let end = if i + 1 < count { b' ' } else { b'\n' };
-        let Some((number, after)) = take_number(rest, end) else {
-            return false;
-        };
-        *x = number;
+    for i in 0..COUNT {
+        let end = if i + 1 < COUNT { b' ' } else { b'\n' };
+        let (number, after) = take_number(rest, end)?;
+        numbers[i] = number;
         rest = after;
     }
-    0 < count
+    if 0 < COUNT { Some(numbers) } else { None }
 }
 
 // The number at the bytes' start, which the byte `end` must follow, and what follows that byte.
@@ -59,7 +58,8 @@ fn take_digits(line: &[u8]) -> (u64, usize)
     (number, most)
 }
 
-// A text that grows at the start of a lent buffer, which must have the room.
+// A text that grows at the start of a lent buffer. Its methods ask for the room, so that they cannot
+// fail, as `write!` can.
 #[derive(Drop)]
 pub struct Text<'a> {
     out: &'a mut [u8],

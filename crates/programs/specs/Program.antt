@@ -1,6 +1,7 @@
 -- What a program may write, as bytes. `bad query` comes first, then `no file`, then what its own promise allows.
-use Rattle.std.specs.Prelude.{◌≡◌, Bool, true, false, List, [], ◌∷◌, ℕ, length}
+use Rattle.std.specs.Prelude.{◌≡◌, Bool, true, false, List, [], ◌∷◌, ℕ, length, take, Option, None, Some}
 use Rattle.digits.specs.Line.{space, newline, Line}
+use Rattle.programs.specs.declared.Sizes.{Sizes}
 
 -- `bad query` and `no file`, each on a line
 abbrev pub bad_query : List ℕ
@@ -22,3 +23,12 @@ pub data Responds (P : Program) (line : List ℕ) (files : Bool) (ns rs : List �
   none : (ms : List ℕ) → length ms ≡ P.count → Line ms line → files ≡ false → Responds P line files ns rs no_file
   answered : {text : List ℕ} (ms : List ℕ) → length ms ≡ P.count → Line ms line → files ≡ true → P.Writes ms ns rs text
       → Responds P line files ns rs text
+
+-- the bytes of a file that are in its buffer: none, where a file could not be read
+abbrev pub nodes_read : Option Sizes → List ℕ → List ℕ
+nodes_read None nodes = []
+nodes_read (Some s) nodes = take s.nodes nodes
+
+abbrev pub roads_read : Option Sizes → List ℕ → List ℕ
+roads_read None roads = []
+roads_read (Some s) roads = take s.roads roads

@@ -1,5 +1,5 @@
 -- What the functions that the programs share ask and keep. No promise cites it.
-use Rattle.std.specs.Prelude.{List, [], ℕ, ◌^◌, ◌≤◌, ◌<◌, length, take, get_or, Option, None, Some, IfSome}
+use Rattle.std.specs.Prelude.{List, ℕ, ◌^◌, ◌≤◌, ◌<◌, length, get_or, IfSome}
 use Rattle.io.specs.Counts.{IsPrefixLen}
 use Rattle.digits.specs.Puts.{Written}
 use Rattle.programs.specs.Program.{Program}
@@ -19,15 +19,6 @@ pub record Filled (nodes roads : List ℕ) (s : Sizes) : Type 0 where
 pub record Reads (line nodes roads : List ℕ) (r : Inputs) : Type 0 where
   pub line_count : IsPrefixLen r.line line
   pub files_count : IfSome r.files (Filled nodes roads)
-
--- the bytes of a file that are in its buffer: none, where a file could not be read
-abbrev pub nodes_read : Option Sizes → List ℕ → List ℕ
-nodes_read None nodes = []
-nodes_read (Some s) nodes = take s.nodes nodes
-
-abbrev pub roads_read : Option Sizes → List ℕ → List ℕ
-roads_read None roads = []
-roads_read (Some s) roads = take s.roads roads
 
 -- every number is below 10^10
 abbrev pub Small : List ℕ → Type 0

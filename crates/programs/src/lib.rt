@@ -5,8 +5,8 @@
 ghost use Rattle.std.specs.Prelude.{◌≡◌, ◌≤◌, ℕ, IfOk, IfSome, is_some, length, take};
 ghost use Rattle.io.specs.Counts.{IsPrefixLen};
 ghost use Rattle.digits.specs.Puts.{Written};
-ghost use Rattle.programs.specs.Program.{Program, Responds, bad_query};
-ghost use Rattle.programs.specs.Shared.{Reads, Filled, nodes_read, roads_read, Small, Lent, Answers, roads_room};
+ghost use Rattle.programs.specs.Program.{Program, Responds, nodes_read, roads_read, bad_query};
+ghost use Rattle.programs.specs.Shared.{Reads, Filled, Small, Lent, Answers, roads_room};
 
 use digits::Text;
 use std::io::Read;
@@ -85,10 +85,9 @@ pub fn respond<const NUMBERS: usize, P: CabProgram<NUMBERS>>(
     ensures prefix_len { IsPrefixLen result roads.new }
     ensures responds { Responds P.program line.now (is_some files) (nodes_read files nodes.now) (roads_read files roads.old) (take result roads.new) }
 {
-    let mut numbers = [0u64; NUMBERS];
-    if !digits::read_numbers(line, &mut numbers) {
+    let Some(numbers) = digits::read_numbers(line) else {
         return write_word(roads, b"bad query\n");
-    }
+    };
     let Some(sizes) = files else {
         return write_word(roads, b"no file\n");
     };
