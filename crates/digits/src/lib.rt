@@ -21,10 +21,10 @@ pub fn read_numbers<const COUNT: usize>(line: &[u8]) -> Option<[u64; COUNT]>
 {
     let mut numbers = [0; COUNT];
     let mut rest = line;
-    for i in 0..COUNT {
+    for (i, x) in numbers.iter_mut().enumerate() {
         let end = if i + 1 < COUNT { b' ' } else { b'\n' };
         let (number, after) = take_number(rest, end)?;
-        numbers[i] = number;
+        *x = number;
         rest = after;
     }
     if 0 < COUNT { Some(numbers) } else { None }

@@ -24,11 +24,7 @@ pub data Responds (P : Program) (line : List ℕ) (files : Bool) (ns rs : List �
   answered : {text : List ℕ} (ms : List ℕ) → length ms ≡ P.count → Line ms line → files ≡ true → P.Writes ms ns rs text
       → Responds P line files ns rs text
 
--- the bytes of a file that are in its buffer: none, where a file could not be read
-abbrev pub nodes_read : Option Sizes → List ℕ → List ℕ
-nodes_read None nodes = []
-nodes_read (Some s) nodes = take s.nodes nodes
-
-abbrev pub roads_read : Option Sizes → List ℕ → List ℕ
-roads_read None roads = []
-roads_read (Some s) roads = take s.roads roads
+-- the bytes of a file, as many of its buffer as were read: none, where a file could not be
+abbrev pub bytes_read : (Sizes → ℕ) → Option Sizes → List ℕ → List ℕ
+bytes_read size None buffer = []
+bytes_read size (Some s) buffer = take (size s) buffer

@@ -5,7 +5,7 @@
 ghost use Rattle.std.specs.Prelude.{◌≡◌, ◌≤◌, ℕ, IfOk, IfSome, is_some, length, take};
 ghost use Rattle.io.specs.Counts.{IsPrefixLen};
 ghost use Rattle.digits.specs.Puts.{Written};
-ghost use Rattle.programs.specs.Program.{Program, Responds, nodes_read, roads_read, bad_query};
+ghost use Rattle.programs.specs.Program.{Program, Responds, bytes_read, bad_query};
 ghost use Rattle.programs.specs.Shared.{Reads, Filled, Small, Lent, Answers, roads_room};
 
 use digits::Text;
@@ -51,10 +51,12 @@ pub trait CabProgram<const NUMBERS: usize> {
         requires lent { Lent room size roads.old }
         ensures { Answers program numbers.now nodes.now (take size roads.old) roads.new result };
 
+    // They are for lines of so many numbers.
     ghost counts: { program.count ≡ NUMBERS };
 
     ghost few: { NUMBERS ≤ 10 };
 
+    // The buffer of the roads has the room.
     ghost fits: { room ≤ roads_room };
 }
 
@@ -83,7 +85,7 @@ pub fn respond<const NUMBERS: usize, P: CabProgram<NUMBERS>>(
     requires room { P.room ≤ length roads.old }
     requires filled { IfSome files (Filled nodes.now roads.old) }
     ensures prefix_len { IsPrefixLen result roads.new }
-    ensures responds { Responds P.program line.now (is_some files) (nodes_read files nodes.now) (roads_read files roads.old) (take result roads.new) }
+    ensures responds { Responds P.program line.now (is_some files) (bytes_read (λ s. s.nodes) files nodes.now) (bytes_read (λ s. s.roads) files roads.old) (take result roads.new) }
 {
     let Some(numbers) = digits::read_numbers(line) else {
         return write_word(roads, b"bad query\n");
@@ -94,6 +96,7 @@ pub fn respond<const NUMBERS: usize, P: CabProgram<NUMBERS>>(
     P::answer(&numbers, &nodes[..sizes.nodes], roads, sizes.roads)
 }
 
+// A word alone: how many bytes it has.
 fn write_word(out: &mut [u8], word: &[u8]) -> usize
     requires { length word.now ≤ length out.old }
     ensures { Written word.now out.new result }
@@ -103,6 +106,7 @@ fn write_word(out: &mut [u8], word: &[u8]) -> usize
     text.len()
 }
 
+// Reads the line from standard input and the two files from the current folder.
 pub fn read_inputs(
     rt: &(impl Files + Input),
     line: &mut [u8],
