@@ -2,7 +2,8 @@
 // current folder, and write `bad query`, `no file` or what the library answers.
 #![tactic(auto)]
 
-ghost use Rattle.std.specs.Prelude.{◌≡◌, ◌≤◌, ℕ, IfOk, IfSome, is_some, length, take};
+ghost use Rattle.std.specs.Prelude.{◌≡◌, ◌<◌, ◌≤◌, ℕ, IfOk, IfSome, is_some, length, take};
+ghost use Rattle.std.specs.Io.KnownBytes.{Consumes, IsAtEnd};
 ghost use Rattle.io.specs.Counts.{IsPrefixLen};
 ghost use Rattle.digits.specs.Puts.{Written};
 ghost use Rattle.programs.specs.Program.{Program, Responds, bytes_read, bad_query};
@@ -151,8 +152,10 @@ fn read_file(files: &impl Files, path: &str, room: &mut [u8]) -> Option<usize>
 
 // Reads until the room is full or the input ends, and answers how many bytes came; a read that fails
 // is told.
-pub fn read_all(input: &mut impl Read, room: &mut [u8]) -> io::Result<usize>
-    ensures { IfOk result (λ n. IsPrefixLen n room.new) }
+pub fn read_all<R: Read>(input: &mut R, room: &mut [u8]) -> io::Result<usize>
+    ensures prefix_len { IfOk result (λ n. IsPrefixLen n room.new) }
+    ensures bytes { IfOk result (λ n. Consumes (R.remaining input.old) (R.remaining input.new) (take n room.new)) }
+    ensures end { IfOk result (λ n. n < length room.new → IsAtEnd (R.remaining input.new)) }
 {
     let mut count = 0;
     while count < room.len() {
