@@ -46,7 +46,7 @@ pub trait CabProgram<const NUMBERS: usize> {
 
     // What is written for the line's numbers: how many bytes at the start of `roads`. The file of the
     // roads is its first `size` bytes; once there is an answer it is not read again, and the answer
-    // is written over it.
+    // is written over it: the buffer and its size come apart, since the memory is fixed.
     fn answer(numbers: &[u64; NUMBERS], nodes: &[u8], roads: &mut [u8], size: usize) -> usize
         requires small { Small numbers.now }
         requires lent { Lent room size roads.old }
@@ -151,7 +151,8 @@ fn read_file(files: &impl Files, path: &str, room: &mut [u8]) -> Option<usize>
 }
 
 // Reads until the room is full or the input ends, and answers how many bytes came; a read that fails
-// is told.
+// is told. A loop of its own: `read_exact` tells no count at the end, and tries again what was
+// interrupted.
 pub fn read_all<R: Read>(input: &mut R, room: &mut [u8]) -> io::Result<usize>
     ensures prefix_len { IfOk result (λ n. IsPrefixLen n room.new) }
     ensures bytes { IfOk result (λ n. Consumes (R.remaining input.old) (R.remaining input.new) (take n room.new)) }
