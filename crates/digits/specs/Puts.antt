@@ -1,16 +1,32 @@
 -- What the writer's functions keep. No promise cites it.
 use Rattle.std.specs.Prelude.{◌≡◌, List, ◌++◌, ℕ, ◌+◌, ◌≤◌, length, take}
 use Rattle.io.specs.Counts.{IsPrefixLen}
+use Rattle.digits.specs.declared.Text.{Text}
 
--- o is the buffer before, o' after: its first bytes stay up to `from`, the text t follows, and the next place is `to`
-pub record Puts (o : List ℕ) (from : ℕ) (t o' : List ℕ) (to : ℕ) : Type 0 where
-  pub next : to ≡ from + length t
-  pub text : take to o' ≡ take from o ++ t
+-- the bytes of a text
+abbrev pub bytes : Text → List ℕ
+bytes x = take x.len x.out.now
 
--- .. and the text has at most so many bytes
-pub record PutsFew (most : ℕ) (o : List ℕ) (from : ℕ) (t o' : List ℕ) (to : ℕ) : Type 0 where
-  pub puts : Puts o from t o' to
-  pub few : to ≤ from + most
+-- a text of no bytes in the buffer o
+pub record IsEmpty (o : List ℕ) (x : Text) : Type 0 where
+  pub buffer : x.out.now ≡ o
+  pub none : x.len ≡ 0
+
+-- there is room for so many bytes more
+abbrev pub HasRoom : Text → ℕ → Type 0
+HasRoom x more = x.len + more ≤ length x.out.now
+
+-- the bytes t are put behind the text x, in the same buffer
+pub record Puts (x : Text) (t : List ℕ) (x' : Text) : Type 0 where
+  pub same_reference : x'.out.ghost_name ≡ x.out.ghost_name
+  pub same_room : length x'.out.now ≡ length x.out.now
+  pub len : x'.len ≡ x.len + length t
+  pub text : bytes x' ≡ bytes x ++ t
+
+-- .. and they are at most so many
+pub record PutsFew (most : ℕ) (x : Text) (t : List ℕ) (x' : Text) : Type 0 where
+  pub puts : Puts x t x'
+  pub few : x'.len ≤ x.len + most
 
 -- the text t stands at the start of the buffer o', up to `to`
 pub record Written (t o' : List ℕ) (to : ℕ) : Type 0 where

@@ -1,6 +1,7 @@
 -- What a program may write, as bytes. `bad query` comes first, then `no file`, then what its own promise allows.
-use Rattle.std.specs.Prelude.{◌≡◌, Bool, true, false, List, [], ◌∷◌, ℕ, length}
+use Rattle.std.specs.Prelude.{◌≡◌, Bool, true, false, List, [], ◌∷◌, ℕ, length, take, Option, None, Some}
 use Rattle.digits.specs.Line.{space, newline, Line}
+use Rattle.programs.specs.declared.Sizes.{Sizes}
 
 -- `bad query` and `no file`, each on a line
 abbrev pub bad_query : List ℕ
@@ -22,3 +23,8 @@ pub data Responds (P : Program) (line : List ℕ) (files : Bool) (ns rs : List �
   none : (ms : List ℕ) → length ms ≡ P.count → Line ms line → files ≡ false → Responds P line files ns rs no_file
   answered : {text : List ℕ} (ms : List ℕ) → length ms ≡ P.count → Line ms line → files ≡ true → P.Writes ms ns rs text
       → Responds P line files ns rs text
+
+-- the bytes of a file, as many of its buffer as were read: none, where a file could not be
+abbrev pub bytes_read : (Sizes → ℕ) → Option Sizes → List ℕ → List ℕ
+bytes_read size None buffer = []
+bytes_read size (Some s) buffer = take (size s) buffer

@@ -1,33 +1,24 @@
 -- What the functions that the programs share ask and keep. No promise cites it.
-use Rattle.std.specs.Prelude.{◌≡◌, Bool, true, false, List, ℕ, ◌^◌, ◌≤◌, ◌<◌, length, get_or}
+use Rattle.std.specs.Prelude.{List, ℕ, ◌^◌, ◌≤◌, ◌<◌, length, get_or, IfSome}
 use Rattle.io.specs.Counts.{IsPrefixLen}
-use Rattle.digits.specs.Line.{Line}
 use Rattle.digits.specs.Puts.{Written}
-use Rattle.programs.specs.Program.{bad_query, no_file}
-use Rattle.programs.specs.declared.Begun.{Begun}
-use Rattle.programs.specs.declared.Begun.TheVariants as begun
+use Rattle.programs.specs.Program.{Program}
 use Rattle.programs.specs.declared.Inputs.{Inputs}
+use Rattle.programs.specs.declared.Sizes.{Sizes}
 
--- as much of each buffer is filled as the inputs say
+-- the buffer of the roads has so many bytes: a full file and one more
+abbrev pub roads_room : ℕ
+roads_room = 65537
+
+-- as much of each file's buffer is filled as was read
+pub record Filled (nodes roads : List ℕ) (s : Sizes) : Type 0 where
+  pub nodes_count : IsPrefixLen s.nodes nodes
+  pub roads_count : IsPrefixLen s.roads roads
+
+-- .. and of the line's
 pub record Reads (line nodes roads : List ℕ) (r : Inputs) : Type 0 where
-  pub line_counts : IsPrefixLen r.line line
-  pub nodes_count : IsPrefixLen r.nodes nodes
-  pub roads_count : IsPrefixLen r.roads roads
-
--- out is the buffer before, out' after: the line's numbers are in the list ms, both files were read and the buffer stays
-pub record Ready (line : List ℕ) (files : Bool) (count : ℕ) (ms out out' : List ℕ) : Type 0 where
-  pub long : length ms ≡ count
-  pub reads : Line ms line
-  pub both : files ≡ true
-  pub stays : out' ≡ out
-
--- .. or `bad query` or `no file` is written
-pub data Begins (line : List ℕ) (files : Bool) (count : ℕ) (ms out out' : List ℕ) : Begun → Type 0 where
-  bad : {to : ℕ} → ((ns : List ℕ) → length ns ≡ count → Line ns line → ⊥) → Written bad_query out' to
-      → Begins line files count ms out out' (begun.Written to)
-  none : {to : ℕ} → length ms ≡ count → Line ms line → files ≡ false → Written no_file out' to
-      → Begins line files count ms out out' (begun.Written to)
-  ready : Ready line files count ms out out' → Begins line files count ms out out' begun.Numbers
+  pub line_count : IsPrefixLen r.line line
+  pub files_count : IfSome r.files (Filled nodes roads)
 
 -- every number is below 10^10
 abbrev pub Small : List ℕ → Type 0
@@ -37,3 +28,9 @@ Small ms = (i : ℕ) → get_or ms i 0 < 10 ^ 10
 pub record Lent (room size : ℕ) (roads : List ℕ) : Type 0 where
   pub counts : IsPrefixLen size roads
   pub suffices : room ≤ length roads
+
+-- a text that the program may write for these numbers and files stands at the start of the buffer, up to `to`
+pub record Answers (P : Program) (ms ns rs out : List ℕ) (to : ℕ) : Type 0 where
+  pub text : List ℕ
+  pub allowed : P.Writes ms ns rs text
+  pub written : Written text out to

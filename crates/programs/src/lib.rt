@@ -2,14 +2,17 @@
 // current folder, and write `bad query`, `no file` or what the library answers.
 #![tactic(auto)]
 
-ghost use Rattle.std.specs.Prelude.{◌≤◌, length};
+ghost use Rattle.std.specs.Prelude.{◌≡◌, ◌<◌, ◌≤◌, ℕ, IfOk, IfSome, is_some, length, take};
+ghost use Rattle.std.specs.Io.KnownBytes.{Consumes, IsAtEnd};
 ghost use Rattle.io.specs.Counts.{IsPrefixLen};
-ghost use Rattle.programs.specs.Shared.{Reads, Begins};
-ghost use Rattle.programs.specs.Program.{bad_query};
+ghost use Rattle.digits.specs.Puts.{Written};
+ghost use Rattle.programs.specs.Program.{Program, Responds, bytes_read, bad_query};
+ghost use Rattle.programs.specs.Shared.{Reads, Filled, Small, Lent, Answers, roads_room};
 
-use std::fs;
+use digits::Text;
 use std::io::Read;
 use std::rt::Files;
+use std::{fs, io};
 
 // The most bytes of a number of the line, with the byte after it.
 pub const MOST_NUMBER: usize = digits::MOST_DIGITS + 1;
@@ -19,30 +22,92 @@ pub const NODES_ROOM: usize = network::MOST_JUNCTIONS * network::JUNCTION_BYTES 
 
 pub const ROADS_ROOM: usize = network::MOST_ROADS * network::ROAD_BYTES + 1;
 
-// How many bytes of the line and of each file were read, and whether both files could be.
+// How many bytes of each file were read.
 #[derive(Clone, Copy)]
-pub struct Inputs {
-    pub line: usize,
-    pub files: bool,
+pub struct Sizes {
     pub nodes: usize,
     pub roads: usize,
 }
 
-// Whether a file could be read, and how many of its bytes were.
+// How many bytes of the line were read, and the files' sizes if both could be read.
 #[derive(Clone, Copy)]
-struct Got {
-    ok: bool,
-    count: usize,
+pub struct Inputs {
+    pub line: usize,
+    pub files: Option<Sizes>,
 }
 
-// How a program begins: so many bytes are written and it ends, or the line's numbers are there for
-// the library.
-#[derive(Clone, Copy)]
-pub enum Begun {
-    Written(usize),
-    Numbers,
+// A program whose line has so many numbers.
+pub trait CabProgram<const NUMBERS: usize> {
+    // The texts that it may write.
+    ghost program: { Program };
+
+    // The room for the longest of them.
+    ghost room: { ℕ };
+
+    // What is written for the line's numbers: how many bytes at the start of `roads`. The file of the
+    // roads is its first `size` bytes; once there is an answer it is not read again, and the answer
+    // is written over it: the buffer and its size come apart, since the memory is fixed.
+    fn answer(numbers: &[u64; NUMBERS], nodes: &[u8], roads: &mut [u8], size: usize) -> usize
+        requires small { Small numbers.now }
+        requires lent { Lent room size roads.old }
+        ensures { Answers program numbers.now nodes.now (take size roads.old) roads.new result };
+
+    // They are for lines of so many numbers.
+    ghost counts: { program.count ≡ NUMBERS };
+
+    ghost few: { NUMBERS ≤ 10 };
+
+    // The buffer of the roads has the room.
+    ghost fits: { room ≤ roads_room };
 }
 
+// Reads the line and the files, and writes what the program responds.
+pub fn run<const NUMBERS: usize, P: CabProgram<NUMBERS>>(
+    rt: &(impl Files + Input + Print),
+    line: &mut [u8],
+) -> io::Result<()> {
+    let mut nodes = [0u8; NODES_ROOM];
+    let mut roads = [0u8; ROADS_ROOM];
+    let read = read_inputs(rt, line, &mut nodes, &mut roads);
+    let n = read.line;
+    let count = respond::<NUMBERS, P>(&line[..n], read.files, &nodes, &mut roads);
+    rt.write_all(&roads[..count])
+}
+
+// What is written: how many bytes at the start of `roads`, of which as many as `files` says are the
+// file of the roads.
+pub fn respond<const NUMBERS: usize, P: CabProgram<NUMBERS>>(
+    line: &[u8],
+    files: Option<Sizes>,
+    nodes: &[u8],
+    roads: &mut [u8],
+) -> usize
+    requires words { length bad_query ≤ length roads.old }
+    requires room { P.room ≤ length roads.old }
+    requires filled { IfSome files (Filled nodes.now roads.old) }
+    ensures prefix_len { IsPrefixLen result roads.new }
+    ensures responds { Responds P.program line.now (is_some files) (bytes_read (λ s. s.nodes) files nodes.now) (bytes_read (λ s. s.roads) files roads.old) (take result roads.new) }
+{
+    let Some(numbers) = digits::read_numbers(line) else {
+        return write_word(roads, b"bad query\n");
+    };
+    let Some(sizes) = files else {
+        return write_word(roads, b"no file\n");
+    };
+    P::answer(&numbers, &nodes[..sizes.nodes], roads, sizes.roads)
+}
+
+// A word alone: how many bytes it has.
+fn write_word(out: &mut [u8], word: &[u8]) -> usize
+    requires { length word.now ≤ length out.old }
+    ensures { Written word.now out.new result }
+{
+    let mut text = Text::new(out);
+    text.put(word);
+    text.len()
+}
+
+// Reads the line from standard input and the two files from the current folder.
 pub fn read_inputs(
     rt: &(impl Files + Input),
     line: &mut [u8],
@@ -51,30 +116,14 @@ pub fn read_inputs(
 ) -> Inputs
     ensures { Reads line.new nodes.new roads.new result }
 {
-    let n = read_line(&mut rt.reader(), line);
-    let first = read_file(rt, "nodes.bin", nodes);
-    let second = read_file(rt, "roads.bin", roads);
-    Inputs {
-        line: n,
-        files: first.ok && second.ok,
-        nodes: first.count,
-        roads: second.count,
-    }
-}
-
-// Reads the line's numbers, as many as the list has entries. It writes `bad query` where the line is
-// none of them, else `no file` where a file could not be read; else the buffer stays as it was.
-pub fn begin(line: &[u8], files: bool, list: &mut [u64], out: &mut [u8]) -> Begun
-    requires { length bad_query ≤ length out.old }
-    ensures { Begins line.now files (length list.old) list.new out.old out.new result }
-{
-    if !digits::read_numbers(line, list) {
-        return Begun::Written(digits::put(out, 0, b"bad query\n"));
-    }
-    if !files {
-        return Begun::Written(digits::put(out, 0, b"no file\n"));
-    }
-    Begun::Numbers
+    let line = read_line(&mut rt.reader(), line);
+    let nodes = read_file(rt, "nodes.bin", nodes);
+    let roads = read_file(rt, "roads.bin", roads);
+    let files = match (nodes, roads) {
+        (Some(nodes), Some(roads)) => Some(Sizes { nodes, roads }),
+        _ => None,
+    };
+    Inputs { line, files }
 }
 
 // The bytes of the first line with its newline, or as many as there is room for. It reads byte by
@@ -82,53 +131,40 @@ pub fn begin(line: &[u8], files: bool, list: &mut [u64], out: &mut [u8]) -> Begu
 fn read_line(input: &mut impl Read, line: &mut [u8]) -> usize
     ensures { IsPrefixLen result line.new }
 {
-    let mut n = 0;
-    while n < line.len() {
-        let next = n + 1;
-        let Ok(got) = input.read(&mut line[n..next]) else {
-            break;
+    for n in 0..line.len() {
+        let Ok(1) = input.read(&mut line[n..n + 1]) else {
+            return n;
         };
-        if got < 1 {
-            break;
-        }
-        n = next;
-        if line[n - 1] == b'\n' {
-            break;
+        if line[n] == b'\n' {
+            return n + 1;
         }
     }
-    n
+    line.len()
 }
 
-fn read_file(files: &impl Files, path: &str, room: &mut [u8]) -> Got
-    ensures { IsPrefixLen result.count room.new }
+// How many bytes of a file were read, if it could be.
+fn read_file(files: &impl Files, path: &str, room: &mut [u8]) -> Option<usize>
+    ensures { IfSome result (λ n. IsPrefixLen n room.new) }
 {
-    let Ok(mut file) = fs::open(files, path) else {
-        return Got {
-            ok: false,
-            count: 0,
-        };
-    };
-    read_all(&mut file, room)
+    let mut file = fs::open(files, path).ok()?;
+    read_all(&mut file, room).ok()
 }
 
-// Reads until the room is full or the file ends; a read that fails is told.
-fn read_all(file: &mut impl Read, room: &mut [u8]) -> Got
-    ensures { IsPrefixLen result.count room.new }
+// Reads until the room is full or the input ends, and answers how many bytes came; a read that fails
+// is told. A loop of its own: `read_exact` tells no count at the end, and tries again what was
+// interrupted.
+pub fn read_all<R: Read>(input: &mut R, room: &mut [u8]) -> io::Result<usize>
+    ensures prefix_len { IfOk result (λ n. IsPrefixLen n room.new) }
+    ensures bytes { IfOk result (λ n. Consumes (R.remaining input.old) (R.remaining input.new) (take n room.new)) }
+    ensures end { IfOk result (λ n. n < length room.new → IsAtEnd (R.remaining input.new)) }
 {
     let mut count = 0;
-    loop {
-        if room.len() <= count {
-            break Got { ok: true, count };
-        }
-        let Ok(more) = file.read(&mut room[count..]) else {
-            break Got {
-                ok: false,
-                count: 0,
-            };
-        };
+    while count < room.len() {
+        let more = input.read(&mut room[count..])?;
         if more == 0 {
-            break Got { ok: true, count };
+            break;
         }
         count += more;
     }
+    Ok(count)
 }

@@ -1,17 +1,16 @@
 // The program of the night crew: one line on standard input, nodes.bin and roads.bin from the current
 // folder, the charge to set off with from each junction on standard output. What is written is
-// decided by `respond`.
+// decided by `programs::respond` of `SetOff`.
 #![tactic(auto)]
 
-ghost use Rattle.std.specs.Prelude.{◌≡◌, take};
-ghost use Rattle.io.specs.Counts.{IsPrefixLen};
+ghost use Rattle.std.specs.Prelude.{◌≡◌};
+ghost use Rattle.std.proofs.Common.{rules};
 ghost use Rattle.network.specs.Files.{most_junctions};
-ghost use Rattle.programs.specs.Program.{Responds};
-ghost use Rattle.programs.specs.Shared.{Small, Lent};
+ghost use Rattle.programs.specs.Shared.{Small};
 ghost use Rattle.text.specs.Room.{charges_room};
 ghost use Rattle.setoff.specs.Response.{question, set_off_program};
 
-use programs::{Begun, MOST_NUMBER, NODES_ROOM, ROADS_ROOM};
+use programs::{CabProgram, MOST_NUMBER};
 use promises::SetOffQuestion;
 use refusals::Checked;
 use std::io;
@@ -21,35 +20,33 @@ const NUMBERS: usize = 2;
 
 fn main(rt: HostRuntime) -> io::Result<()> {
     let mut line = [0u8; NUMBERS * MOST_NUMBER];
-    let mut nodes = [0u8; NODES_ROOM];
-    let mut roads = [0u8; ROADS_ROOM];
-    let read = programs::read_inputs(&rt, &mut line, &mut nodes, &mut roads);
-    let n = read.line;
-    let a = read.nodes;
-    let count = respond(&line[..n], read.files, &nodes[..a], &mut roads, read.roads);
-    rt.write_all(&roads[..count])
+    programs::run::<NUMBERS, SetOff>(&rt, &mut line)
 }
 
-// What is written: how many bytes at the start of `roads`. The file of the roads is its first `size`
-// bytes; once there is an answer it is not read again, and the answer is written over it.
-fn respond(line: &[u8], files: bool, nodes: &[u8], roads: &mut [u8], size: usize) -> usize
-    requires { Lent (charges_room most_junctions) size roads.old }
-    ensures prefix_len { IsPrefixLen result roads.new }
-    ensures responds { Responds set_off_program line.now files nodes.now (take size roads.old) (take result roads.new) }
-{
-    let mut numbers = [0u64; NUMBERS];
-    let begun = programs::begin(line, files, &mut numbers, roads);
-    if let Begun::Written(count) = begun {
-        return count;
+// The charge to set off with from each junction.
+struct SetOff;
+
+impl CabProgram<NUMBERS> for SetOff {
+    ghost program = { set_off_program };
+
+    ghost room = { charges_room most_junctions };
+
+    ghost counts = { Prim.search rules };
+
+    ghost few = { Prim.search rules };
+
+    ghost fits = { Prim.search rules };
+
+    fn answer(numbers: &[u64; NUMBERS], nodes: &[u8], roads: &mut [u8], size: usize) -> usize {
+        let mut list = [0i32; network::MOST_JUNCTIONS];
+        let answer = depot::set_off(nodes, &roads[..size], asked(numbers), &mut list);
+        let given = planner::check_numbers(answer);
+        let Checked::Passed = answer else {
+            return text::write_refusal(roads, given.number, given.place);
+        };
+        let count = nodes.len() / network::JUNCTION_BYTES;
+        text::write_charges(roads, &list[..count])
     }
-    let mut list = [0i32; network::MOST_JUNCTIONS];
-    let answer = depot::set_off(nodes, &roads[..size], asked(&numbers), &mut list);
-    let given = planner::check_numbers(answer);
-    let Checked::Passed = answer else {
-        return text::write_refusal(roads, given.number, given.place);
-    };
-    let count = nodes.len() / network::JUNCTION_BYTES;
-    text::write_charges(roads, &list[..count])
 }
 
 // What the line asks.

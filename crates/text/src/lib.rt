@@ -2,37 +2,45 @@
 // buffer's start are the text. Writing it out is the programs' own.
 #![tactic(auto)]
 
-ghost use Rattle.std.specs.Prelude.{◌+◌, ◌*◌, ◌≤◌, ◌<◌, ◌≡◌, length};
-ghost use Rattle.digits.specs.Puts.{Puts, Written};
-ghost use Rattle.text.specs.Answer.{number_lines, signed_lines, route_text, refused_text};
+ghost use Rattle.std.specs.Prelude.{List, ℕ, ◌+◌, ◌*◌, ◌≤◌, length};
+ghost use Rattle.digits.specs.Decimal.{number_line, signed_line};
+ghost use Rattle.digits.specs.Puts.{HasRoom, Puts, PutsFew, Written};
+ghost use Rattle.text.specs.Answer.{item_lines, signed_lines, route_text, refused_text};
 ghost use Rattle.text.specs.Room.{refusal_room, route_room, charges_room};
 
+use digits::Text;
 use promises::PlanNumbers;
 
 // The most roads of a route: it visits no junction twice.
 pub const MOST_ROUTE: usize = network::MOST_JUNCTIONS - 1;
 
+#[tactic(auto, unfolding(crate::specs::Answer::refused_text))]
 pub fn write_refusal(out: &mut [u8], number: u64, place: u64) -> usize
     requires { refusal_room ≤ length out.old }
     ensures { Written (refused_text number place) out.new result }
 {
-    let mut at = digits::put(out, 0, b"refused ");
-    at = digits::put_decimal(out, at, number);
-    at = digits::put(out, at, b" ");
-    digits::put_number_line(out, at, place)
+    let mut text = Text::new(out);
+    text.put(b"refused ");
+    text.put_decimal(number);
+    text.put(b" ");
+    text.put_number_line(place);
+    text.len()
 }
 
 // A route with its numbers: arrival, drawn, recovered, spilled, roads, then each road.
+#[tactic(auto, unfolding(crate::specs::Answer::route_text))]
 pub fn write_route(out: &mut [u8], given: PlanNumbers, route: &[u16]) -> usize
     requires { route_room (length route.now) ≤ length out.old }
     ensures { Written (route_text given route.now) out.new result }
 {
-    let mut at = digits::put_word_line(out, 0, b"arrival", given.arrival);
-    at = digits::put_word_line(out, at, b"drawn", given.drawn);
-    at = digits::put_word_line(out, at, b"recovered", given.recovered);
-    at = digits::put_word_line(out, at, b"spilled", given.spilled);
-    at = digits::put_word_line(out, at, b"roads", given.roads);
-    put_roads(out, at, route)
+    let mut text = Text::new(out);
+    text.put_word_line(b"arrival", given.arrival);
+    text.put_word_line(b"drawn", given.drawn);
+    text.put_word_line(b"recovered", given.recovered);
+    text.put_word_line(b"spilled", given.spilled);
+    text.put_word_line(b"roads", given.roads);
+    put_lines(&mut text, route);
+    text.len()
 }
 
 // The numbers of the junctions, one to a line.
@@ -40,31 +48,52 @@ pub fn write_charges(out: &mut [u8], list: &[i32]) -> usize
     requires { charges_room (length list.now) ≤ length out.old }
     ensures { Written (signed_lines list.now) out.new result }
 {
-    let mut at = 0;
-    let mut i = 0;
-    while i < list.len() {
-        at = digits::put_signed_line(out, at, list[i]);
-        i += 1;
-    }
-    at
+    let mut text = Text::new(out);
+    put_lines(&mut text, list);
+    text.len()
 }
 
-// Each road's number, one to a line.
-fn put_roads(out: &mut [u8], from: usize, route: &[u16]) -> usize
-    requires { from + 6 * length route.now + 20 ≤ length out.old }
-    ensures { Puts out.old from (number_lines route.now) out.new result }
-{
-    let mut at = from;
-    let mut i = 0;
-    while i < route.len() {
-        at = digits::put_number_line(out, at, wide(route[i]));
-        i += 1;
-    }
-    at
+// An item of a list that is written one to a line.
+trait Item: Copy {
+    // Its line.
+    ghost line: { Self → List ℕ };
+
+    // The most bytes of a line.
+    ghost most: { ℕ };
+
+    fn put_line(self, text: &mut Text)
+        requires { HasRoom text.old (most + 20) }
+        ensures { PutsFew most text.old (line self) text.new };
 }
 
-fn wide(road: u16) -> u64
-    ensures { (result ≡ road) × (result < 65536) }
+// A road's number has at most five digits.
+impl Item for u16 {
+    ghost line = { number_line };
+
+    ghost most = { 6 };
+
+    fn put_line(self, text: &mut Text) {
+        text.put_number_line(u64::from(self));
+    }
+}
+
+// A charge has at most a minus sign and ten digits.
+impl Item for i32 {
+    ghost line = { signed_line };
+
+    ghost most = { 12 };
+
+    fn put_line(self, text: &mut Text) {
+        text.put_signed_line(self);
+    }
+}
+
+// The items, one to a line.
+fn put_lines<T: Item>(text: &mut Text, items: &[T])
+    requires { HasRoom text.old (T.most * length items.now + 20) }
+    ensures { Puts text.old (item_lines T.line items.now) text.new }
 {
-    road as u64
+    for item in items {
+        item.put_line(text);
+    }
 }

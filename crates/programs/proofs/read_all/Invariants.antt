@@ -1,9 +1,14 @@
--- Invariant: as many bytes as are counted stand in the room. Measure: the room left.
-use Rattle.std.proofs.Common.{length, ◌-◌, ◌≤◌}
+-- Invariant: the bytes that came, as many as are counted, stand in the room. Measure: the room left.
+use Rattle.std.proofs.Common.{length, take, ◌-◌, ◌≤◌}
+use Rattle.std.specs.Io.KnownBytes.{Consumes}
 use Rattle.programs.proofs.read_all.Given as goal
 
-abbrev pub invariant-loop-room : goal.invariant-loop-room
-invariant-loop-room g l = l.count ≤ length l.room
+abbrev pub invariant-loop-count : goal.invariant-loop-count
+invariant-loop-count g l =
+    record {
+      within : l.count ≤ length l.room;
+      came : Consumes (g.R.Read.remaining l.initial.input) (g.R.Read.remaining l.input) (take l.count l.room);
+    }
 
-abbrev pub decreases-loop-room : goal.decreases-loop-room
-decreases-loop-room g l = length l.initial.room - l.count
+abbrev pub decreases-loop-count : goal.decreases-loop-count
+decreases-loop-count g l = length l.initial.room - l.count

@@ -1,7 +1,7 @@
 -- The kit writes the same digits.
 use Rattle.std.proofs.Common.{arith, ◌∙◌}
 use Rattle.digits.proofs.Decimal.{at_most_twenty, decimal_is}
-use Rattle.digits.proofs.put_decimal.Goals as goal
+use Rattle.digits.proofs.Text.put_decimal.Goals as goal
 
 pub returns : goal.returns
 returns c =
@@ -11,5 +11,5 @@ returns c =
     let l = at_most_twenty n d.result c.ranges.n.fits d.ensures.len in
     record {
       puts = rw (d.ensures.digits ∙ decimal_is n d.result c.ranges.n.fits d.ensures.len) at p;
-      few = omega (arith, p.next, d.ensures.in_bounds.0);
+      few = omega (arith, p.len, d.ensures.in_bounds.0);
     }
