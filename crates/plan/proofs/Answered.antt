@@ -5,11 +5,11 @@ use mathlib.Core.List.{List}
 use Prim.Native.Nat.{ℕ, ◌≤◌}
 use native.Mathlib.Omega.{arith}
 use lib.ListN.{length, take, drop, length-append, length-drop}
-use Rattle.battery.specs.declared.Van.{Van}
+use Rattle.promises.specs.declared.Route.{Route}
 use Rattle.refusals.proofs.Early.{number_pos}
 use Rattle.refusals.specs.Refusals.{number_of}
 use Rattle.refusals.specs.declared.Refusal.{Refusal}
-use Rattle.promises.specs.Given.{plan_numbers, routed}
+use Rattle.promises.specs.Given.{plan_numbers}
 use Rattle.promises.specs.Promises.{Plans, refused, none, route}
 use Rattle.promises.specs.declared.PlanNumbers.{PlanNumbers}
 use Rattle.promises.specs.declared.PlanQuestion.{PlanQuestion}
@@ -28,7 +28,7 @@ fits {list} (route ks v f w o m) z l =
     omega arith
 
 module _ {ns rs list xs : List ℕ} {q : PlanQuestion} (answer : Result Route Refusal) (p : Plans ns rs q list (plan_numbers answer) xs) where
-  pub route_fits : {n : ℕ} {v : Van} → answer ≡ routed n v → length xs ≡ length list → n ≤ length xs
+  pub route_fits : {route : Route} → answer ≡ Ok route → length xs ≡ length list → route.roads ≤ length xs
   route_fits e l =
       let roads = ap (λ (a : Result Route Refusal). (plan_numbers a).roads) e in
       omega (arith, fits p (ap (λ (a : Result Route Refusal). (plan_numbers a).number) e) l)
@@ -38,10 +38,10 @@ module _ {ns rs list xs : List ℕ} {q : PlanQuestion} (answer : Result Route Re
     writes : Writes ms ns rs (answer_text given xs)
     writes = let p' = rw asks at p in Writes.outcome list xs given long (rw g p')
 
-    pub writes_route : {n : ℕ} {v : Van} → answer ≡ routed n v → Writes ms ns rs (route_text given (take n xs))
-    writes_route {n} e =
+    pub writes_route : {route : Route} → answer ≡ Ok route → Writes ms ns rs (route_text given (take route.roads xs))
+    writes_route {route = r} e =
         let number = ap (λ (a : PlanNumbers). a.number) (g ∙ ap plan_numbers e) in
-        let roads : given.roads ≡ n = ap (λ (a : PlanNumbers). a.roads) (g ∙ ap plan_numbers e) in
+        let roads : given.roads ≡ r.roads = ap (λ (a : PlanNumbers). a.roads) (g ∙ ap plan_numbers e) in
         subst (λ (k : ℕ). Writes ms ns rs (route_text given (take k xs))) roads
         (writes_success (Writes ms ns rs) given.number given.place _ writes number)
 

@@ -10,7 +10,7 @@ ghost use Rattle.text.specs.Room.{route_room};
 ghost use Rattle.plan.specs.Response.{question, plan_program};
 
 use programs::{CabProgram, MOST_NUMBER};
-use promises::{PlanQuestion, Planned};
+use promises::{PlanNumbers, PlanQuestion};
 use std::io;
 use text::MOST_ROUTE;
 
@@ -39,11 +39,11 @@ impl CabProgram<NUMBERS> for Plan {
     fn answer(numbers: &[u64; NUMBERS], nodes: &[u8], roads: &mut [u8], size: usize) -> usize {
         let mut list = [0u16; MOST_ROUTE];
         let answer = planner::best_route(nodes, &roads[..size], asked(numbers), &mut list);
-        let given = planner::plan_numbers(answer);
-        let Planned::Route(count, _) = answer else {
+        let given = PlanNumbers::from(answer);
+        let Ok(route) = answer else {
             return text::write_refusal(roads, given.number, given.place);
         };
-        text::write_route(roads, given, &list[..count])
+        text::write_route(roads, given, &list[..route.roads])
     }
 }
 

@@ -11,8 +11,7 @@ ghost use Rattle.text.specs.Room.{charges_room};
 ghost use Rattle.setoff.specs.Response.{question, set_off_program};
 
 use programs::{CabProgram, MOST_NUMBER};
-use promises::SetOffQuestion;
-use refusals::Checked;
+use promises::{CheckNumbers, SetOffQuestion};
 use std::io;
 
 // The numbers of the line: battery, depot.
@@ -40,8 +39,8 @@ impl CabProgram<NUMBERS> for SetOff {
     fn answer(numbers: &[u64; NUMBERS], nodes: &[u8], roads: &mut [u8], size: usize) -> usize {
         let mut list = [0i32; network::MOST_JUNCTIONS];
         let answer = depot::set_off(nodes, &roads[..size], asked(numbers), &mut list);
-        let given = planner::check_numbers(answer);
-        let Checked::Passed = answer else {
+        let given = CheckNumbers::from(answer);
+        let Ok(()) = answer else {
             return text::write_refusal(roads, given.number, given.place);
         };
         let count = nodes.len() / network::JUNCTION_BYTES;
