@@ -2,13 +2,13 @@
 // lent buffer. Opening files, reading and writing them is the programs' own.
 #![tactic(auto)]
 
-ghost use Rattle.std.specs.Prelude.{◌≡◌, ◌+◌, ◌≤◌, MatchOption};
+ghost use Rattle.std.specs.Prelude.{◌≡◌, ◌+◌, MatchOption};
 ghost use lib.ListN;
 ghost use lib.ListN.{length};
 ghost use Rattle.digits.specs.Decimal.{decimal, number_line, word_line, signed_line};
 ghost use Rattle.digits.specs.Line.{Line};
 ghost use Rattle.digits.specs.Taking.{NoDigit, Ran, Takes, NoNumber, NoLine};
-ghost use Rattle.digits.specs.Puts.{IsEmpty, HasRoom, Puts, PutsFew, Written};
+ghost use Rattle.digits.specs.Puts.{IsEmpty, HasRoom, Puts, PutsFew};
 
 // The most digits of a number that is read.
 pub const MOST_DIGITS: usize = 10;
