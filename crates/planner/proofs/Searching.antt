@@ -4,6 +4,7 @@ use mathlib.Core.List.{List, ◌++◌}
 use Prim.Native.Nat.{ℕ, suc, ◌+◌, ◌≤◌, ◌<◌}
 use native.Mathlib.Omega.{arith}
 use lib.ListN.{length, drop}
+use Rattle.std.proofs.Common.{Result, Ok, Err}
 use Rattle.numbers.specs.Signed.{draw}
 use Rattle.battery.specs.Drive.{drive_all}
 use Rattle.battery.specs.declared.Drove.{Drove}
@@ -19,8 +20,6 @@ use Rattle.reading.specs.Reading.{forward, net}
 use Rattle.search.specs.declared.Trip.{Trip}
 use Rattle.trips.specs.Found.{BestOf, Finds, nowhere, route}
 use Rattle.trips.specs.Asks.{FindAsks}
-use Rattle.trips.specs.declared.Found.{Found}
-use Rattle.trips.specs.declared.Found.TheVariants.{Nowhere, Roads}
 use Rattle.promises.specs.Given.{plan_numbers}
 use Rattle.promises.specs.Order.{battery_of, plan_van, plan_fault}
 use Rattle.promises.specs.Promises.{Arrives, Most, Plans}
@@ -56,7 +55,7 @@ find_asks ns rs q list c =
     }
 
 -- what the search promises for the van v
-abbrev pub FindsFor : List ℕ → List ℕ → PlanQuestion → Van → List ℕ → Found → List ℕ → Type 0
+abbrev pub FindsFor : List ℕ → List ℕ → PlanQuestion → Van → List ℕ → Result ℕ Refusal → List ℕ → Type 0
 FindsFor ns rs q v list found list' = Finds v.battery ns rs (trip_for q v) list found list'
 
 -- ---- labels and charges
@@ -89,7 +88,7 @@ module _ (rs : List ℕ) (q : PlanQuestion) where
 
 module _ (ns rs : List ℕ) (q : PlanQuestion) (list : List ℕ) (passed : plan_fault ns rs q (length list) ≡ checked.Passed) where
   -- no route
-  pub plans_none : (r : Refusal) (list' : List ℕ) → FindsFor ns rs q (plan_van q) list (Nowhere r) list'
+  pub plans_none : (r : Refusal) (list' : List ℕ) → FindsFor ns rs q (plan_van q) list (Err r) list'
       → Plans ns rs q list (plan_numbers (planned.Refused r)) list'
   plans_none r list' (nowhere best reason) = Plans.none r passed (λ ks v a. omega (arith, bound rs q 0 best ks v a)) reason
 
@@ -105,7 +104,7 @@ pub record BestWalk (ns rs : List ℕ) (q : PlanQuestion) (list : List ℕ) (cou
   pub list_is : list' ≡ by ++ drop (length by) list
 
 pub best_walk : (ns rs : List ℕ) (q : PlanQuestion) (list : List ℕ) (count : ℕ) (list' : List ℕ)
-    → FindsFor ns rs q (plan_van q) list (Roads count) list'
+    → FindsFor ns rs q (plan_van q) list (Ok count) list'
     → BestWalk ns rs q list count list'
 unfolding net brings
 best_walk ns rs q list count list' (route ks few walk once some best) =

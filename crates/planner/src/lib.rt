@@ -15,7 +15,6 @@ use promises::{
 use refusals::Checked;
 use routes::{Driven, Profiled};
 use search::Trip;
-use trips::Found;
 
 // Network check: success or the first fault.
 pub fn check(nodes: &[u8], roads: &[u8]) -> Checked
@@ -158,8 +157,8 @@ fn plan(nodes: &[u8], roads: &[u8], question: PlanQuestion, van: Van, list: &mut
     };
     let found = trips::find(nodes, roads, battery, trip, list);
     match found {
-        Found::Nowhere(r) => Planned::Refused(r),
-        Found::Roads(count) => drive_found(roads, &list[..count], trip.source, van),
+        Err(r) => Planned::Refused(r),
+        Ok(count) => drive_found(roads, &list[..count], trip.source, van),
     }
 }
 

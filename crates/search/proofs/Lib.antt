@@ -21,8 +21,6 @@ pub mod Sizes
 mod Packing
 -- chain: one road more
 mod Linking
--- take: an offer is taken or passed over
-mod Offering
 -- relax: one road
 mod Roads
 -- spread: the roads of one junction, along its chain
@@ -31,5 +29,5 @@ mod Spreading
 mod Exploring
 -- explore: where it begins
 mod Starting
--- seek and label_all: one search in lists that are lent
+-- seek: one search in lists that are lent
 pub mod Seeking

@@ -9,56 +9,32 @@ ghost use Rattle.trips.specs.Ways.{Trailed, Counted, WriteAsks, Written};
 use battery::Battery;
 use reading::{Reading, Sense};
 use refusals::Refusal;
-use search::Trip;
+use search::{Lists, Trip};
 
-// What comes of a trip: how many roads the route has, or why there is none.
-#[derive(Clone, Copy)]
-pub enum Found {
-    Roads(usize),
-    Nowhere(Refusal),
-}
-
-// The best route from the trip's source to its target, written at the front of the list; or why there
-// is none.
-pub fn find(nodes: &[u8], roads: &[u8], battery: Battery, trip: Trip, list: &mut [u16]) -> Found
+// The best route from the trip's source to its target, written at the front of the list, and how many
+// roads it has; or why there is none.
+pub fn find(
+    nodes: &[u8],
+    roads: &[u8],
+    battery: Battery,
+    trip: Trip,
+    list: &mut [u16],
+) -> Result<usize, Refusal>
     requires { FindAsks battery nodes.now roads.now trip list.old }
     ensures { Finds battery nodes.now roads.now trip list.old result list.new }
 {
-    let mut chains = [0u16; search::CHAINS];
-    let mut labels = [0u32; search::MOST_PLACES];
-    let mut ways = [0u16; search::MOST_WAYS];
-    let mut queue = [0u64; search::QUEUE];
+    let mut lists = Lists::new();
     let reading = Reading {
         sense: Sense::Forward,
         battery,
     };
-    search::seek(
-        nodes,
-        roads,
-        reading,
-        trip,
-        &mut chains,
-        &mut labels,
-        &mut ways,
-        &mut queue,
-    );
-    let target = trip.target;
-    if labels[target] == 0 {
-        let reason = reasons::reason(
-            nodes,
-            roads,
-            battery,
-            trip,
-            &mut chains,
-            &mut labels,
-            &mut ways,
-            &mut queue,
-        );
-        return Found::Nowhere(reason);
+    lists.seek(nodes, roads, reading, trip);
+    if lists.labels[trip.target] == 0 {
+        return Err(reasons::reason(nodes, roads, battery, trip, &mut lists));
     }
-    let count = count_back(roads, reading, trip, &ways);
-    write_back(roads, reading, trip, &ways, count, list);
-    Found::Roads(count)
+    let count = count_back(roads, reading, trip, &lists.ways);
+    write_back(roads, reading, trip, &lists.ways, count, list);
+    Ok(count)
 }
 
 // How many roads lead back by the ways from the target to the source.

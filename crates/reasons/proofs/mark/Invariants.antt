@@ -4,8 +4,7 @@ use Rattle.reasons.proofs.Marking.{MarkLoop}
 use Rattle.reasons.proofs.mark.Given as goal
 
 abbrev pub invariant-loop-next : goal.invariant-loop-next
-invariant-loop-next l =
-    MarkLoop (net l.reading l.roads).roads l.u l.next l.initial.labels l.initial.ways l.last l.labels l.ways l.end
+invariant-loop-next l = MarkLoop (net l.reading l.roads).roads l.u l.next l.last l.initial.lists l.end l.lists
 
 abbrev pub decreases-loop-next : goal.decreases-loop-next
 decreases-loop-next l = l.next

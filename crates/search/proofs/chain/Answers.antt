@@ -1,5 +1,5 @@
 -- The road in hand is one of the file, and it is entered at a junction.
-use Rattle.std.proofs.Common.{◌≡◌, ℕ, ◌<◌, List, length-set, arith}
+use Rattle.std.proofs.Common.{◌≡◌, ℕ, ◌<◌, List, arith}
 use Rattle.battery.specs.declared.Road.{Road}
 use Rattle.network.specs.Files.{road_count, road_of, most_roads}
 use Rattle.reading.proofs.Net.{count_is, tail_at}
@@ -19,28 +19,20 @@ module _ (rd : Reading) (rs : List ℕ) {chains : List ℕ} (a : ChainAsks (net 
 
 pub bounds-chains-v : goal.bounds-chains-v
 bounds-chains-v c =
-    omega (
-      arith,
-      placed c.args.reading _ c.requires _ c.loop-k-test.true _ c.road_at.ensures c.entered-v.ensures,
-      c.loop-k.invariant.chained.long,
-    )
+    omega (arith, placed c.args.reading _ c.requires _ c.loop-k-test.true _ c.road_at.ensures c.entered-v.ensures)
 
 pub bounds-chains-k : goal.bounds-chains-k
-bounds-chains-k c =
-    omega (arith, few c.args.reading _ c.requires _ c.loop-k-test.true, c.loop-k.invariant.chained.long)
+bounds-chains-k c = omega (arith, few c.args.reading _ c.requires _ c.loop-k-test.true)
 
 pub overflow_cast-chains : goal.overflow_cast-chains
 overflow_cast-chains c = omega (arith, few c.args.reading _ c.requires _ c.loop-k-test.true)
 
 pub bounds-chains-v-in-loop-k : goal.bounds-chains-v-in-loop-k
-bounds-chains-v-in-loop-k c = simp length-set (bounds-chains-v c)
+bounds-chains-v-in-loop-k c =
+    omega (arith, placed c.args.reading _ c.requires _ c.loop-k-test.true _ c.road_at.ensures c.entered-v.ensures)
 
 pub loop-k-preserved : goal.loop-k-preserved
 loop-k-preserved c =
-    record {
-      below = omega arith;
-      chained =
-          chained_more _ _ _ c.loop-k.invariant.chained (few c.args.reading _ c.requires _ c.loop-k-test.true)
-          _ (tail_at _ _ _ _ c.road_at.ensures c.entered-v.ensures)
-          (placed c.args.reading _ c.requires _ c.loop-k-test.true _ c.road_at.ensures c.entered-v.ensures);
-    }
+    chained_more c.loop-k.invariant (omega arith) (few c.args.reading _ c.requires _ c.loop-k-test.true)
+    (tail_at _ _ _ _ c.road_at.ensures c.entered-v.ensures)
+    (placed c.args.reading _ c.requires _ c.loop-k-test.true _ c.road_at.ensures c.entered-v.ensures)
