@@ -13,26 +13,11 @@ use Rattle.journeys.specs.SetOff.{SetOff}
 use Rattle.reading.proofs.Backward.{set_off}
 use Rattle.reading.proofs.Laws.{best_le}
 use Rattle.reading.specs.Reading.{backward, net}
-use Rattle.search.specs.Searches.{SetsOut, Labels}
+use Rattle.search.specs.Searches.{Labels}
 use Rattle.promises.specs.Promises.{Numbered}
 use Rattle.depot.specs.Filling.{FillAsks, WriteAsks, Written}
 
 module _ {ns rs : List ℕ} {B : Battery} {depot : ℕ} {list : List ℤ} (a : FillAsks ns rs B depot list) where
-  pub sets_out : SetsOut (backward B) ns rs depot (B.size + 1)
-  sets_out =
-      record {
-        readable =
-            record {
-              battery_le = a.battery_le;
-              few = a.files.few;
-              few_roads = a.files.few_roads;
-              checked = a.files.records_ok;
-            };
-        source_in = a.depot_in;
-        some = omega arith;
-        label_le = omega arith;
-      }
-
   module _ {labels : List ℕ} (l : Labels (net (backward B) rs) depot (B.size + 1) labels) where
     pub write_asks : length labels ≡ most_places → WriteAsks B labels (junctions ns) list
     write_asks long =

@@ -1,7 +1,5 @@
 -- the greatest of a group of eight, and of all groups but one, after a change
 mod Level
--- entries are small
-mod Small
 -- the greatest key
 mod Top
 -- a key raised, a key taken out

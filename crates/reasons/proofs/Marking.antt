@@ -1,12 +1,11 @@
 -- The roads of one junction, one after another along its chain: where each is left is marked and listed. Assumes nothing.
-use mathlib.Core.Path.{◌≡◌, refl, sym, ap, ◌∙◌, subst}
+use mathlib.Core.Path.{◌≡◌, sym, ap, ◌∙◌, subst}
 use mathlib.Core.List.{List}
-use mathlib.Core.Logic.{◌⊎◌, inl, inr, ◌≢◌}
+use mathlib.Core.Logic.{◌⊎◌, inr, ◌≢◌}
 use Prim.Native.Nat.{ℕ, ◌+◌, ◌-◌, ◌≤◌, ◌<◌}
 use native.Mathlib.Decide.{dec_lt, ℕ_discrete}
 use native.Mathlib.Omega.{arith}
 use lib.ListN.{length, set, length-set}
-use Rattle.lists.proofs.Stores.{entry_in}
 use Rattle.lists.specs.Lists.{entry}
 use Rattle.walks.specs.Walk.{Roads}
 use Rattle.search.proofs.Sizes.{ways_fit}
@@ -26,26 +25,6 @@ pub record MarkLoop (R : Roads) (u next last : ℕ) (l : Lists) (last' : ℕ) (l
   pub marks : Marks R u next last l last' l'
 
 module _ {R : Roads} {u last : ℕ} {l : Lists} (a : MarkAsks R u last l) where
-  pub mark_start : length l.labels ≡ most_places → length l.ways ≡ most_ways → MarkLoop R u (entry l.chains u) last l last l
-  mark_start long_labels long_ways =
-      let k = a.tracked.chained.lasts u (omega (arith, entry_in l.labels u a.marked)) in
-      record {
-        long_labels = long_labels;
-        long_ways = long_ways;
-        low = k.low;
-        hit = k.hit;
-        marks =
-            record {
-              chains = refl;
-              listed = a.listed;
-              more = omega arith;
-              kept = λ v h. h;
-              same = λ i h. refl;
-              new = λ v h. inl h;
-              followed = λ j h l e. absurd (k.gap j h l e);
-            };
-      }
-
   module _ {next last₁ : ℕ} {l₁ : Lists} (i : MarkLoop R u next last l last₁ l₁) (some : 0 < next) where
     next_is : next ≡ next - 1 + 1
     next_is = omega arith

@@ -15,7 +15,7 @@ use Rattle.walks.specs.Walk.{Roads, Walk, stay, go}
 use Rattle.search.proofs.Sizes.{ways_fit}
 use Rattle.search.specs.Sizes.{most_places, most_ways}
 use Rattle.search.specs.declared.Lists.{Lists}
-use Rattle.reasons.specs.Marks.{Tracked, Listed, MarkAsks, From, Marks, ReachAsks, Reaches}
+use Rattle.reasons.specs.Marks.{Tracked, Listed, From, Marks, ReachAsks, Reaches}
 use Rattle.reasons.proofs.Listing.{put_mark, listed_new}
 
 -- the roads of the first ones are followed
@@ -62,9 +62,6 @@ module _ {R : Roads} {source : ℕ} {l : Lists} (a : ReachAsks R source l) (long
 -- ---- the next one
 
 module _ {R : Roads} {source : ℕ} {l : Lists} {first last : ℕ} (i : ReachLoop R source l first last) where
-  pub mark_asks : first < last → MarkAsks R (entry l.ways first) last l
-  mark_asks more = record { tracked = i.tracked; listed = i.listed; marked = i.listed.each first more }
-
   module _ (more : first < last) {l₂ : Lists} {last₂ : ℕ} (m : Marks R (entry l.ways first) 0 last l last₂ l₂) where
     pub reach_next : ReachLoop R source l₂ (first + 1) last₂
     reach_next =

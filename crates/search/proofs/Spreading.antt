@@ -73,17 +73,6 @@ pub record SpreadLoop (rd : Reading) (ns rs : List ℕ) (u next : ℕ) (l l' : L
   pub spreads : Spreads rd ns rs u (road_count rs) next l l'
 
 module _ {rd : Reading} {ns rs : List ℕ} {u : ℕ} {l : Lists} {top : ℕ} (a : SpreadAsks rd ns rs u l top) where
-  pub spread_start : SpreadLoop rd ns rs u (entry l.chains u) l l top
-  spread_start =
-      let k = a.chained.lasts u a.within in
-      record {
-        chains = refl;
-        underway = a.underway;
-        low = k.low;
-        hit = k.hit;
-        spreads = λ s label turns b. (busy_skip k b, refl);
-      }
-
   module _ {next : ℕ} {l₁ : Lists} {top₁ : ℕ} (i : SpreadLoop rd ns rs u next l l₁ top₁) (some : 0 < next) where
     next_is : next ≡ next - 1 + 1
     next_is = omega arith

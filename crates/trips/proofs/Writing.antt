@@ -19,9 +19,6 @@ pub record Walked (R : Roads) (ways : List ℕ) (s v count : ℕ) (ks : List ℕ
   pub count_is : count ≡ length behind
   pub trail : Trail R (entry ways) (length ways) s v behind ks
 
-pub walked_none : {R : Roads} {ways : List ℕ} {s t : ℕ} {ks : List ℕ} → TrailOf R ways s t ks → Walked R ways s t 0 ks
-walked_none t = record { behind = []; count_is = refl; trail = t }
-
 pub walked_more : {R : Roads} {ways : List ℕ} {s v count : ℕ} {ks : List ℕ} → Walked R ways s v count ks → v ≢ s
     → Walked R ways s (R.tail (entry ways v)) (count + 1) ks
 walked_more {ways = ways} {v = v} w e =
