@@ -77,27 +77,15 @@ fn regroup(queue: &mut [u64], a: usize, x: u64) -> u64
     larger(others, x)
 }
 
-// The greatest of eight from a on, of four, of two.
+// The greatest of the eight from a on.
 fn best8(queue: &[u64], a: usize) -> u64
     requires { (a + 8 ≤ length queue.now) × Small queue.now }
     ensures run { Run (entry queue.now) a (a + 8) result }
     ensures upper_bound { result < 2 ^ 63 }
 {
-    larger(best4(queue, a), best4(queue, a + 4))
-}
-
-fn best4(queue: &[u64], a: usize) -> u64
-    requires { (a + 4 ≤ length queue.now) × Small queue.now }
-    ensures run { Run (entry queue.now) a (a + 4) result }
-    ensures upper_bound { result < 2 ^ 63 }
-{
-    larger(best2(queue, a), best2(queue, a + 2))
-}
-
-fn best2(queue: &[u64], a: usize) -> u64
-    requires { (a + 2 ≤ length queue.now) × Small queue.now }
-    ensures run { Run (entry queue.now) a (a + 2) result }
-    ensures upper_bound { result < 2 ^ 63 }
-{
-    larger(queue[a], queue[a + 1])
+    let mut best = queue[a];
+    for i in a + 1..a + 8 {
+        best = larger(best, queue[i]);
+    }
+    best
 }
