@@ -88,16 +88,15 @@ fn mark(roads: &[u8], reading: Reading, u: usize, last: usize, lists: &mut Lists
     ensures { Marks (net reading roads.now).roads u 0 last lists.old result lists.new }
 {
     let mut end = last;
-    let mut next = lists.chains[u] as usize;
-    while 0 < next {
-        let k = next - 1;
+    let mut road = lists.last(u);
+    while let Some(k) = road {
         let v = reading.left(network::road_at(roads, k));
         if lists.labels[v] == 0 {
             lists.labels[v] = 1;
             lists.ways[end] = v as u16;
             end += 1;
         }
-        next = lists.chains[search::MOST_PLACES + k] as usize;
+        road = lists.previous(k);
     }
     end
 }

@@ -19,6 +19,8 @@ mod Finishing
 pub mod Sizes
 -- keys with their places
 mod Packing
+-- an entry of the chains and the road that it tells
+pub mod Links
 -- chain: one road more
 mod Linking
 -- relax: one road

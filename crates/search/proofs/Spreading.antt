@@ -1,7 +1,8 @@
 -- The roads of the junction settled last, one after another along its chain. Assumes nothing.
-use mathlib.Core.Path.{◌≡◌, refl, sym, ap, ◌∙◌, subst}
+use mathlib.Core.Path.{◌≡◌, refl, ap, ◌∙◌, subst}
 use mathlib.Core.List.{List}
-use Prim.Native.Nat.{ℕ, suc, ◌+◌, ◌-◌, ◌/◌, ◌≤◌, ◌<◌, max}
+use Rattle.std.proofs.Common.{Option, Some, None}
+use Prim.Native.Nat.{ℕ, suc, ◌+◌, ◌/◌, ◌≤◌, ◌<◌, max}
 use native.Mathlib.Decide.{dec_lt}
 use native.Mathlib.Omega.{arith}
 use Rattle.lists.specs.Lists.{entry}
@@ -12,10 +13,11 @@ use Rattle.reading.specs.Reading.{net}
 use Rattle.reading.specs.declared.Reading.{Reading}
 use Rattle.reading.proofs.Laws.{laws}
 use Rattle.reading.proofs.Net.{heads_in, count_is}
-use Rattle.search.specs.Chains.{previous_of, Link}
+use Rattle.search.specs.Chains.{linked, previous_of, Link}
 use Rattle.search.specs.State.{Busy}
-use Rattle.search.specs.Steps.{waiting, packed, Underway, passed, taken, Relaxed, RelaxKeeps, SpreadAsks, BusyIn, Spreads, SpreadKeeps}
+use Rattle.search.specs.Steps.{waiting, packed, Underway, passed, taken, Relaxed, RelaxKeeps, SpreadAsks, Spreads, SpreadKeeps}
 use Rattle.search.specs.declared.Lists.{Lists}
+use Rattle.search.proofs.Links.{entry_of, entry_linked}
 use Rattle.search.proofs.Sizes.{junctions_fit, keys_fit}
 use Rattle.search.proofs.Packing.{put_waiting}
 use Rattle.search.proofs.Better.{Betters, label_u}
@@ -63,7 +65,7 @@ module _ {N : Net} {psi : ℕ → ℕ} {n s l turns u k : ℕ} (laws : Laws N ps
             key = put_waiting a.queue b.queue put_k (new_key (N.roads.head k) (N.step k label) (omega arith) h);
           }
 
--- ---- the loop: from the last road down to `next`
+-- ---- the loop: from the last road down to the one in hand
 
 pub record SpreadLoop (rd : Reading) (ns rs : List ℕ) (u next : ℕ) (l l' : Lists) (top : ℕ) : Type 0 where
   pub chains : l'.chains ≡ l.chains
@@ -73,51 +75,43 @@ pub record SpreadLoop (rd : Reading) (ns rs : List ℕ) (u next : ℕ) (l l' : L
   pub spreads : Spreads rd ns rs u (road_count rs) next l l'
 
 module _ {rd : Reading} {ns rs : List ℕ} {u : ℕ} {l : Lists} {top : ℕ} (a : SpreadAsks rd ns rs u l top) where
-  module _ {next : ℕ} {l₁ : Lists} {top₁ : ℕ} (i : SpreadLoop rd ns rs u next l l₁ top₁) (some : 0 < next) where
-    next_is : next ≡ next - 1 + 1
-    next_is = omega arith
-
-    is_road : next - 1 < road_count rs
+  module _ {k : ℕ} {l₁ : Lists} {top₁ : ℕ} (i : SpreadLoop rd ns rs u (suc k) l l₁ top₁) where
+    pub is_road : k < road_count rs
     is_road = omega (arith, i.low)
 
-    previous : Link (net rd rs).roads u (previous_of l.chains (next - 1)) (next - 1)
-    previous =
-        subst (λ (v : ℕ). Link (net rd rs).roads v (previous_of l.chains (next - 1)) (next - 1)) (i.hit (next - 1) next_is)
-        (a.chained.previous (next - 1) is_road)
+    here : (net rd rs).roads.tail k ≡ u
+    here = i.hit k (omega arith)
 
-    pub falls : previous_of l.chains (next - 1) < next
-    falls = omega (arith, previous.low)
+    before : Link (net rd rs).roads u (previous_of l.chains k) k
+    before = subst (λ (v : ℕ). Link (net rd rs).roads v (previous_of l.chains k) k) here (a.chained.previous k is_road)
 
-    module _ {l₂ : Lists} {top₂ : ℕ} (r : RelaxKeeps rd ns rs (next - 1) (entry l.labels u) l₁ l₂ top₂) where
-      on : Spreads rd ns rs u (road_count rs) (previous_of l.chains (next - 1)) l l₂
+    module _ {l₂ : Lists} {top₂ : ℕ} (r : RelaxKeeps rd ns rs k (entry l.labels u) l₁ l₂ top₂) {road : Option ℕ}
+        (road_is : road ≡ linked (previous_of l₂.chains k)) where
+      on : Spreads rd ns rs u (road_count rs) (previous_of l.chains k) l l₂
       on s label turns b =
-          let k = next - 1 in
           let c = i.spreads s label turns b in
-          let e : next ≡ suc k = omega arith in
-          let d = subst (λ (p : ℕ). BusyIn rd ns rs s label turns u p l₁) e c.0 in
           let o =
-          one_road (laws rd ns rs a.readable) (omega (arith, is_road, count_is rd rs)) (i.hit k next_is)
-          (heads_in rd ns rs a.readable k is_road) (omega (arith, a.readable.few, junctions_fit, keys_fit)) l₁ l₂ d c.1 r.relaxed
+          one_road (laws rd ns rs a.readable) (omega (arith, is_road, count_is rd rs)) here
+          (heads_in rd ns rs a.readable k is_road) (omega (arith, a.readable.few, junctions_fit, keys_fit)) l₁ l₂ c.0 c.1 r.relaxed
           in
-          (busy_skip previous o.0, o.1 ∙ c.1)
+          (busy_skip before o.0, o.1 ∙ c.1)
 
-      pub spread_next : SpreadLoop rd ns rs u (previous_of l₂.chains (next - 1)) l l₂ top₂
+      next_is : entry_of road ≡ previous_of l.chains k
+      next_is = rw (road_is, entry_linked (previous_of l₂.chains k), r.chains, i.chains)
+
+      pub spread_next : SpreadLoop rd ns rs u (entry_of road) l l₂ top₂
       spread_next =
-          let e : l₂.chains ≡ l.chains = r.chains ∙ i.chains in
-          subst (λ (cs : List ℕ). SpreadLoop rd ns rs u (previous_of cs (next - 1)) l l₂ top₂) (sym e)
+          rw next_is
           (record {
-            chains = e;
+            chains = r.chains ∙ i.chains;
             underway = r.underway;
-            low = omega (arith, falls, i.low);
-            hit = previous.hit;
+            low = omega (arith, before.low, i.low);
+            hit = before.hit;
             spreads = on;
           })
 
-  pub spread_done : {next : ℕ} {l₁ : Lists} {top₁ : ℕ} → SpreadLoop rd ns rs u next l l₁ top₁ → next ≡ 0
-      → SpreadKeeps rd ns rs u l l₁ top₁
-  spread_done {l₁ = l₁} i e =
-      record {
-        chains = i.chains;
-        underway = i.underway;
-        spreads = subst (λ (p : ℕ). Spreads rd ns rs u (road_count rs) p l l₁) e i.spreads;
-      }
+module _ {rd : Reading} {ns rs : List ℕ} {u : ℕ} {l l₁ : Lists} {top : ℕ} where
+  pub spread_done : (road : Option ℕ) → SpreadLoop rd ns rs u (entry_of road) l l₁ top → ((k : ℕ) → road ≡ Some k → ⊥)
+      → SpreadKeeps rd ns rs u l l₁ top
+  spread_done None i n = record { chains = i.chains; underway = i.underway; spreads = i.spreads }
+  spread_done (Some k) i n = absurd (n k refl)

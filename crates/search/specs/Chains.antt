@@ -1,6 +1,6 @@
 -- The roads of each junction as a chain. In one list: first the last road entered at each junction, then for each road the
 -- previous one entered at the same junction; each plus one, 0 for none. No promise cites this file.
-use Rattle.std.specs.Prelude.{◌≡◌, List, ◌≢◌, ℕ, ◌+◌, ◌≤◌, ◌<◌}
+use Rattle.std.specs.Prelude.{◌≡◌, List, ◌≢◌, ℕ, zero, suc, ◌+◌, ◌≤◌, ◌<◌, Option, Some, None}
 use Rattle.lists.specs.Lists.{entry}
 use Rattle.network.specs.Files.{most_roads}
 use Rattle.walks.specs.Walk.{Roads}
@@ -11,6 +11,11 @@ last_of chains v = entry chains v
 
 abbrev pub previous_of : List ℕ → ℕ → ℕ
 previous_of chains k = entry chains (most_places + k)
+
+-- the road that an entry tells
+abbrev pub linked : ℕ → Option ℕ
+linked zero = None
+linked (suc k) = Some k
 
 -- no road is on a chain
 abbrev pub Unchained : List ℕ → Type 0

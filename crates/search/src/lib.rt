@@ -3,10 +3,11 @@
 
 ghost use Rattle.std.specs.Prelude.{◌≡◌, ◌+◌, ◌^◌, ◌<◌, cond, ltb};
 ghost use Rattle.lists.specs.Lists.{AllZero};
-ghost use Rattle.network.specs.Files.{junctions, road_count};
+ghost use Rattle.network.specs.Files.{most_roads, junctions, road_count};
 ghost use Rattle.reading.specs.Reading.{psi, net};
-ghost use Rattle.search.specs.Chains.{Unchained, Chained, ChainAsks};
+ghost use Rattle.search.specs.Chains.{linked, last_of, previous_of, Unchained, Chained, ChainAsks};
 ghost use Rattle.search.specs.Searches.{SetsOut, Fresh, ExploreAsks, Explored, Labels};
+ghost use Rattle.search.specs.Sizes.{most_places};
 ghost use Rattle.search.specs.Steps.{packed, KeyAsks, OfferAsks, Offered, RelaxAsks, RelaxKeeps, SpreadAsks, SpreadKeeps};
 
 use reading::Reading;
@@ -104,6 +105,22 @@ impl Lists {
         self.labels.fill(0);
     }
 
+    // The last road on the chain of junction u.
+    pub fn last(&self, u: usize) -> Option<usize>
+        requires { u < most_places }
+        ensures { result ≡ linked (last_of self.now.chains u) }
+    {
+        linked(self.chains[u])
+    }
+
+    // The road before road k on its chain.
+    pub fn previous(&self, k: usize) -> Option<usize>
+        requires { k < most_roads }
+        ensures { result ≡ linked (previous_of self.now.chains k) }
+    {
+        linked(self.chains[MOST_PLACES + k])
+    }
+
     // Settles one junction after another, the greatest key first, until the target is settled or none
     // waits.
     fn explore(&mut self, nodes: &[u8], roads: &[u8], reading: Reading, trip: Trip)
@@ -131,11 +148,10 @@ impl Lists {
     {
         let label = self.labels[u];
         let mut best = top;
-        let mut next = self.chains[u] as usize;
-        while 0 < next {
-            let k = next - 1;
+        let mut road = self.last(u);
+        while let Some(k) = road {
             best = self.relax(nodes, roads, reading, k, label, best);
-            next = self.chains[MOST_PLACES + k] as usize;
+            road = self.previous(k);
         }
         best
     }
@@ -198,6 +214,13 @@ fn key(nodes: &[u8], reading: Reading, v: usize, label: u32) -> u64
 {
     let number = reading.psi(network::potential_at(nodes, v));
     (label as u64 + number as u64) * frontier::PLACES + v as u64
+}
+
+// The road that an entry of the chains tells.
+fn linked(entry: u16) -> Option<usize>
+    ensures { result ≡ linked entry }
+{
+    (entry as usize).checked_sub(1)
 }
 
 // The first of two where the offer betters the label, the second else.

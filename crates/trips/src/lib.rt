@@ -65,11 +65,8 @@ fn write_back(
     requires { WriteAsks (net reading roads.now).roads ways.now trip.source trip.target count list.old }
     ensures { Written (net reading roads.now).roads ways.now trip.source trip.target list.old list.new }
 {
-    let source = trip.source;
     let mut v = trip.target;
-    let mut i = count;
-    while v != source {
-        i -= 1;
+    for i in (0..count).rev() {
         let k = ways[v];
         list[i] = k;
         v = reading.entered(network::road_at(roads, k as usize));

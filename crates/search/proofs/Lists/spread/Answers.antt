@@ -1,9 +1,9 @@
-use Rattle.std.proofs.Common.{arith}
 use Rattle.search.proofs.Spreading.{spread_next, spread_done}
 use Rattle.search.proofs.Lists.spread.Goals as goal
 
-pub loop-next-preserved : goal.loop-next-preserved
-loop-next-preserved c = spread_next c.requires c.loop-next.invariant c.loop-next-test.true c.relax-best.ensures
+pub loop-road-preserved : goal.loop-road-preserved
+loop-road-preserved c =
+    spread_next c.requires (rw c.in-Some.is at c.loop-road.invariant) c.relax-best.ensures c.previous-road.ensures
 
 pub returns : goal.returns
-returns c = spread_done c.requires c.loop-next.invariant (omega arith)
+returns c = spread_done _ c.loop-road.invariant c.in_default.not-Some

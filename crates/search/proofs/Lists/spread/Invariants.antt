@@ -1,9 +1,10 @@
--- The roads of u from `next` on are relaxed; next falls along the chain.
+-- The roads of u from the one in hand on are relaxed; it falls along the chain.
+use Rattle.search.proofs.Links.{entry_of}
 use Rattle.search.proofs.Spreading.{SpreadLoop}
 use Rattle.search.proofs.Lists.spread.Given as goal
 
-abbrev pub invariant-loop-next : goal.invariant-loop-next
-invariant-loop-next l = SpreadLoop l.reading l.nodes l.roads l.u l.next l.initial.self l.self l.best
+abbrev pub invariant-loop-road : goal.invariant-loop-road
+invariant-loop-road l = SpreadLoop l.reading l.nodes l.roads l.u (entry_of l.road) l.initial.self l.self l.best
 
-abbrev pub decreases-loop-next : goal.decreases-loop-next
-decreases-loop-next l = l.next
+abbrev pub decreases-loop-road : goal.decreases-loop-road
+decreases-loop-road l = entry_of l.road
