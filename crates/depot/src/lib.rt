@@ -13,7 +13,7 @@ use battery::Battery;
 use promises::SetOffQuestion;
 use reading::{Reading, Sense};
 use refusals::Checked;
-use search::Lists;
+use search::{Lists, Map};
 
 // Writes one number for each junction at the front of the list: the least charge to set off with,
 // and -1 where no charge up to a full battery does.
@@ -36,11 +36,15 @@ fn fill(nodes: &[u8], roads: &[u8], battery: Battery, depot: usize, list: &mut [
     ensures { Numbered nodes.now roads.now battery depot list.old list.new }
 {
     let mut lists = Lists::new();
-    let reading = Reading {
-        sense: Sense::Backward,
-        battery,
+    let map = Map {
+        nodes,
+        roads,
+        reading: Reading {
+            sense: Sense::Backward,
+            battery,
+        },
     };
-    lists.label_all(nodes, roads, reading, depot, battery.size + 1);
+    lists.label_all(&map, depot, battery.size + 1);
     write_charges(
         battery,
         &lists.labels,

@@ -10,7 +10,7 @@ ghost use Rattle.reasons.specs.Marks.{LeadAsks, Leads, ReachAsks, Reaches, MarkA
 use battery::Battery;
 use reading::{Reading, Sense};
 use refusals::Refusal;
-use search::{Lists, Trip};
+use search::{Lists, Map, Trip};
 
 // Why no walk of the trip is feasible: a search back from its target for the least charge to set off
 // with; where no charge does, whether roads join the source to the target.
@@ -24,20 +24,24 @@ pub fn reason(
     requires { ReasonAsks battery nodes.now roads.now trip lists.old }
     ensures { Reason battery roads.now trip.source trip.target result }
 {
-    let backward = Reading {
-        sense: Sense::Backward,
-        battery,
+    let backward = Map {
+        nodes,
+        roads,
+        reading: Reading {
+            sense: Sense::Backward,
+            battery,
+        },
     };
     let back = Trip {
         source: trip.target,
         label: battery.size + 1,
         target: trip.source,
     };
-    let slack = seek_again(nodes, roads, backward, back, lists);
+    let slack = seek_again(&backward, back, lists);
     if 0 < slack {
         return Refusal::MoreCharge(battery.size + 1 - slack);
     }
-    if leads(roads, backward, back, lists) {
+    if leads(&backward, back, lists) {
         Refusal::NeverEnough
     } else {
         Refusal::NotJoined
@@ -45,31 +49,31 @@ pub fn reason(
 }
 
 // Another search, in the lists of one after which nothing waits: the best label of the target.
-fn seek_again(nodes: &[u8], roads: &[u8], reading: Reading, trip: Trip, lists: &mut Lists) -> u32
-    requires { AgainAsks reading nodes.now roads.now trip lists.old }
-    ensures { Best (net reading roads.now) trip.source trip.label trip.target result }
+fn seek_again(map: &Map, trip: Trip, lists: &mut Lists) -> u32
+    requires { AgainAsks map.now.reading map.now.nodes.now map.now.roads.now trip lists.old }
+    ensures { Best (net map.now.reading map.now.roads.now) trip.source trip.label trip.target result }
 {
     lists.clear();
-    lists.seek(nodes, roads, reading, trip);
+    lists.seek(map, trip);
     lists.labels[trip.target]
 }
 
 // Whether roads, so read, lead from the trip's source to its target, whatever they take.
-fn leads(roads: &[u8], reading: Reading, trip: Trip, lists: &mut Lists) -> bool
-    requires { LeadAsks (net reading roads.now).roads trip }
-    ensures { Leads (net reading roads.now).roads trip.source trip.target result }
+fn leads(map: &Map, trip: Trip, lists: &mut Lists) -> bool
+    requires { LeadAsks (net map.now.reading map.now.roads.now).roads trip }
+    ensures { Leads (net map.now.reading map.now.roads.now).roads trip.source trip.target result }
 {
     lists.clear();
-    search::chain(roads, reading, &mut lists.chains);
-    reach(roads, reading, trip.source, lists);
+    search::chain(map, &mut lists.chains);
+    reach(map, trip.source, lists);
     0 < lists.labels[trip.target]
 }
 
 // Marks with the label 1 every junction that roads, so read, lead to from the source. The ways list
 // the junctions that are marked; the roads of the first ones are followed.
-fn reach(roads: &[u8], reading: Reading, source: usize, lists: &mut Lists)
-    requires { ReachAsks (net reading roads.now).roads source lists.old }
-    ensures { Reaches (net reading roads.now).roads source lists.new.labels }
+fn reach(map: &Map, source: usize, lists: &mut Lists)
+    requires { ReachAsks (net map.now.reading map.now.roads.now).roads source lists.old }
+    ensures { Reaches (net map.now.reading map.now.roads.now).roads source lists.new.labels }
 {
     lists.labels[source] = 1;
     lists.ways[0] = source as u16;
@@ -77,20 +81,20 @@ fn reach(roads: &[u8], reading: Reading, source: usize, lists: &mut Lists)
     let mut first = 0;
     while first < last {
         let u = lists.ways[first] as usize;
-        last = mark(roads, reading, u, last, lists);
+        last = mark(map, u, last, lists);
         first += 1;
     }
 }
 
 // Marks the junctions where the roads that are entered at u are left, and lists them from `last` on.
-fn mark(roads: &[u8], reading: Reading, u: usize, last: usize, lists: &mut Lists) -> usize
-    requires { MarkAsks (net reading roads.now).roads u last lists.old }
-    ensures { Marks (net reading roads.now).roads u 0 last lists.old result lists.new }
+fn mark(map: &Map, u: usize, last: usize, lists: &mut Lists) -> usize
+    requires { MarkAsks (net map.now.reading map.now.roads.now).roads u last lists.old }
+    ensures { Marks (net map.now.reading map.now.roads.now).roads u 0 last lists.old result lists.new }
 {
     let mut end = last;
     let mut road = lists.last(u);
     while let Some(k) = road {
-        let v = reading.left(network::road_at(roads, k));
+        let v = map.left(k);
         if lists.labels[v] == 0 {
             lists.labels[v] = 1;
             lists.ways[end] = v as u16;

@@ -12,6 +12,49 @@ ghost use Rattle.search.specs.Steps.{packed, KeyAsks, OfferAsks, Offered, RelaxA
 
 use reading::Reading;
 
+// A network and how its roads are read.
+#[derive(Clone, Copy)]
+pub struct Map<'a> {
+    pub nodes: &'a [u8],
+    pub roads: &'a [u8],
+    pub reading: Reading,
+}
+
+impl Map<'_> {
+    // How many roads there are.
+    pub fn count(&self) -> usize
+        ensures { result ≡ road_count self.now.roads.now }
+    {
+        self.roads.len() / network::ROAD_BYTES
+    }
+
+    // Where road k is entered.
+    pub fn entered(&self, k: usize) -> usize
+        requires { k < road_count self.now.roads.now }
+        ensures { result ≡ (net self.now.reading self.now.roads.now).roads.tail k }
+    {
+        self.reading.entered(network::road_at(self.roads, k))
+    }
+
+    // Where road k is left.
+    pub fn left(&self, k: usize) -> usize
+        requires { k < road_count self.now.roads.now }
+        ensures { result ≡ (net self.now.reading self.now.roads.now).roads.head k }
+    {
+        self.reading.left(network::road_at(self.roads, k))
+    }
+
+    // The key of junction v with this label: label and number of the junction together, and the place.
+    fn key(&self, v: usize, label: u32) -> u64
+        requires { KeyAsks self.now.nodes.now v }
+        ensures value { result ≡ packed (label + psi self.now.reading self.now.nodes.now v) v }
+        ensures upper_bound { result < 2 ^ 63 }
+    {
+        let number = self.reading.psi(network::potential_at(self.nodes, v));
+        (label as u64 + number as u64) * frontier::PLACES + v as u64
+    }
+}
+
 // From where a search sets out and with what label, and the junction where it may stop. A target
 // that is no junction never stops it, and then every label is the best.
 #[derive(Clone, Copy)]
@@ -65,34 +108,27 @@ impl Lists {
 
     // The best label of every junction, of all walks from the source with this label; 0 where none comes
     // there.
-    pub fn label_all(
-        &mut self,
-        nodes: &[u8],
-        roads: &[u8],
-        reading: Reading,
-        source: usize,
-        label: u32,
-    )
-        requires sets_out { SetsOut reading nodes.now roads.now source label }
+    pub fn label_all(&mut self, map: &Map, source: usize, label: u32)
+        requires sets_out { SetsOut map.now.reading map.now.nodes.now map.now.roads.now source label }
         requires fresh { Fresh self.old }
-        ensures { Labels (net reading roads.now) source label self.new.labels }
+        ensures { Labels (net map.now.reading map.now.roads.now) source label self.new.labels }
     {
         let trip = Trip {
             source,
             label,
             target: MOST_PLACES,
         };
-        self.seek(nodes, roads, reading, trip);
+        self.seek(map, trip);
     }
 
     // One search, in lists with no road on a chain, no label and no key.
-    pub fn seek(&mut self, nodes: &[u8], roads: &[u8], reading: Reading, trip: Trip)
-        requires sets_out { SetsOut reading nodes.now roads.now trip.source trip.label }
+    pub fn seek(&mut self, map: &Map, trip: Trip)
+        requires sets_out { SetsOut map.now.reading map.now.nodes.now map.now.roads.now trip.source trip.label }
         requires fresh { Fresh self.old }
-        ensures { Explored (net reading roads.now) (junctions nodes.now) trip self.new }
+        ensures { Explored (net map.now.reading map.now.roads.now) (junctions map.now.nodes.now) trip self.new }
     {
-        chain(roads, reading, &mut self.chains);
-        self.explore(nodes, roads, reading, trip);
+        chain(map, &mut self.chains);
+        self.explore(map, trip);
     }
 
     // Takes every road off its chain and every label away.
@@ -123,13 +159,13 @@ impl Lists {
 
     // Settles one junction after another, the greatest key first, until the target is settled or none
     // waits.
-    fn explore(&mut self, nodes: &[u8], roads: &[u8], reading: Reading, trip: Trip)
-        requires { ExploreAsks reading nodes.now roads.now trip self.old }
-        ensures { Explored (net reading roads.now) (junctions nodes.now) trip self.new }
+    fn explore(&mut self, map: &Map, trip: Trip)
+        requires { ExploreAsks map.now.reading map.now.nodes.now map.now.roads.now trip self.old }
+        ensures { Explored (net map.now.reading map.now.roads.now) (junctions map.now.nodes.now) trip self.new }
     {
         let source = trip.source;
         self.labels[source] = trip.label;
-        let first = key(nodes, reading, source, trip.label);
+        let first = map.key(source, trip.label);
         let mut top = frontier::raise(&mut self.queue, 0, source, first);
         while top != 0 {
             let u = (top % frontier::PLACES) as usize;
@@ -137,45 +173,37 @@ impl Lists {
             if u == trip.target {
                 return;
             }
-            top = self.spread(nodes, roads, reading, u, rest);
+            top = self.spread(map, u, rest);
         }
     }
 
     // Relaxes the roads that are entered at u, which was settled last.
-    fn spread(&mut self, nodes: &[u8], roads: &[u8], reading: Reading, u: usize, top: u64) -> u64
-        requires { SpreadAsks reading nodes.now roads.now u self.old top }
-        ensures { SpreadKeeps reading nodes.now roads.now u self.old self.new result }
+    fn spread(&mut self, map: &Map, u: usize, top: u64) -> u64
+        requires { SpreadAsks map.now.reading map.now.nodes.now map.now.roads.now u self.old top }
+        ensures { SpreadKeeps map.now.reading map.now.nodes.now map.now.roads.now u self.old self.new result }
     {
         let label = self.labels[u];
         let mut best = top;
         let mut road = self.last(u);
         while let Some(k) = road {
-            best = self.relax(nodes, roads, reading, k, label, best);
+            best = self.relax(map, k, label, best);
             road = self.previous(k);
         }
         best
     }
 
     // Offers road k's end what the road brings from this label.
-    fn relax(
-        &mut self,
-        nodes: &[u8],
-        roads: &[u8],
-        reading: Reading,
-        k: usize,
-        label: u32,
-        top: u64,
-    ) -> u64
-        requires { RelaxAsks reading nodes.now roads.now k label self.old top }
-        ensures { RelaxKeeps reading nodes.now roads.now k label self.old self.new result }
+    fn relax(&mut self, map: &Map, k: usize, label: u32, top: u64) -> u64
+        requires { RelaxAsks map.now.reading map.now.nodes.now map.now.roads.now k label self.old top }
+        ensures { RelaxKeeps map.now.reading map.now.nodes.now map.now.roads.now k label self.old self.new result }
     {
-        let road = network::road_at(roads, k);
-        let v = reading.left(road);
-        let brings = reading.step(road, label);
+        let road = network::road_at(map.roads, k);
+        let v = map.reading.left(road);
+        let brings = map.reading.step(road, label);
         let offer = Offer {
             road: k as u16,
             label: brings,
-            key: key(nodes, reading, v, brings),
+            key: map.key(v, brings),
         };
         self.take(top, v, offer)
     }
@@ -195,25 +223,15 @@ impl Lists {
 
 // Chains the roads: for each junction the last road entered there, for each road the previous one
 // entered at the same junction, each plus one, 0 for none.
-pub fn chain(roads: &[u8], reading: Reading, chains: &mut [u16; CHAINS])
-    requires { ChainAsks (net reading roads.now).roads chains.old }
-    ensures { Chained (net reading roads.now).roads (road_count roads.now) chains.new }
+pub fn chain(map: &Map, chains: &mut [u16; CHAINS])
+    requires { ChainAsks (net map.now.reading map.now.roads.now).roads chains.old }
+    ensures { Chained (net map.now.reading map.now.roads.now).roads (road_count map.now.roads.now) chains.new }
 {
-    for k in 0..roads.len() / network::ROAD_BYTES {
-        let v = reading.entered(network::road_at(roads, k));
+    for k in 0..map.count() {
+        let v = map.entered(k);
         chains[MOST_PLACES + k] = chains[v];
         chains[v] = (k + 1) as u16;
     }
-}
-
-// The key of junction v with this label: label and number of the junction together, and the place.
-fn key(nodes: &[u8], reading: Reading, v: usize, label: u32) -> u64
-    requires { KeyAsks nodes.now v }
-    ensures value { result ≡ packed (label + psi reading nodes.now v) v }
-    ensures upper_bound { result < 2 ^ 63 }
-{
-    let number = reading.psi(network::potential_at(nodes, v));
-    (label as u64 + number as u64) * frontier::PLACES + v as u64
 }
 
 // The road that an entry of the chains tells.

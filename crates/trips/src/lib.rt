@@ -9,7 +9,7 @@ ghost use Rattle.trips.specs.Ways.{Trailed, Counted, WriteAsks, Written};
 use battery::Battery;
 use reading::{Reading, Sense};
 use refusals::Refusal;
-use search::{Lists, Trip};
+use search::{Lists, Map, Trip};
 
 // The best route from the trip's source to its target, written at the front of the list, and how many
 // roads it has; or why there is none.
@@ -24,51 +24,48 @@ pub fn find(
     ensures { Finds battery nodes.now roads.now trip list.old result list.new }
 {
     let mut lists = Lists::new();
-    let reading = Reading {
-        sense: Sense::Forward,
-        battery,
+    let map = Map {
+        nodes,
+        roads,
+        reading: Reading {
+            sense: Sense::Forward,
+            battery,
+        },
     };
-    lists.seek(nodes, roads, reading, trip);
+    lists.seek(&map, trip);
     if lists.labels[trip.target] == 0 {
         return Err(reasons::reason(nodes, roads, battery, trip, &mut lists));
     }
-    let count = count_back(roads, reading, trip, &lists.ways);
-    write_back(roads, reading, trip, &lists.ways, count, list);
+    let count = count_back(&map, trip, &lists.ways);
+    write_back(&map, trip, &lists.ways, count, list);
     Ok(count)
 }
 
 // How many roads lead back by the ways from the target to the source.
-fn count_back(roads: &[u8], reading: Reading, trip: Trip, ways: &[u16]) -> usize
-    requires { Trailed (net reading roads.now).roads ways.now trip.source trip.target }
-    ensures { Counted (net reading roads.now).roads ways.now trip.source trip.target result }
+fn count_back(map: &Map, trip: Trip, ways: &[u16]) -> usize
+    requires { Trailed (net map.now.reading map.now.roads.now).roads ways.now trip.source trip.target }
+    ensures { Counted (net map.now.reading map.now.roads.now).roads ways.now trip.source trip.target result }
 {
     let source = trip.source;
     let mut v = trip.target;
     let mut count = 0;
     while v != source {
         let k = ways[v];
-        v = reading.entered(network::road_at(roads, k as usize));
+        v = map.entered(k as usize);
         count += 1;
     }
     count
 }
 
 // Writes them at the front of the list, the last one first.
-fn write_back(
-    roads: &[u8],
-    reading: Reading,
-    trip: Trip,
-    ways: &[u16],
-    count: usize,
-    list: &mut [u16],
-)
-    requires { WriteAsks (net reading roads.now).roads ways.now trip.source trip.target count list.old }
-    ensures { Written (net reading roads.now).roads ways.now trip.source trip.target list.old list.new }
+fn write_back(map: &Map, trip: Trip, ways: &[u16], count: usize, list: &mut [u16])
+    requires { WriteAsks (net map.now.reading map.now.roads.now).roads ways.now trip.source trip.target count list.old }
+    ensures { Written (net map.now.reading map.now.roads.now).roads ways.now trip.source trip.target list.old list.new }
 {
     let mut v = trip.target;
     for i in (0..count).rev() {
         let k = ways[v];
         list[i] = k;
-        v = reading.entered(network::road_at(roads, k as usize));
+        v = map.entered(k as usize);
     }
 }
