@@ -44,7 +44,7 @@ fn fill(nodes: &[u8], roads: &[u8], battery: Battery, depot: usize, list: &mut [
             battery,
         },
     };
-    lists.label_all(&map, depot, battery.size + 1);
+    lists.label_all(map, depot, battery.size + 1);
     write_charges(
         battery,
         &lists.labels,

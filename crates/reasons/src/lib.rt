@@ -37,11 +37,11 @@ pub fn reason(
         label: battery.size + 1,
         target: trip.source,
     };
-    let slack = seek_again(&backward, back, lists);
+    let slack = seek_again(backward, back, lists);
     if 0 < slack {
         return Refusal::MoreCharge(battery.size + 1 - slack);
     }
-    if leads(&backward, back, lists) {
+    if leads(backward, back, lists) {
         Refusal::NeverEnough
     } else {
         Refusal::NotJoined
@@ -49,9 +49,9 @@ pub fn reason(
 }
 
 // Another search, in the lists of one after which nothing waits: the best label of the target.
-fn seek_again(map: &Map, trip: Trip, lists: &mut Lists) -> u32
-    requires { AgainAsks map.now.reading map.now.nodes.now map.now.roads.now trip lists.old }
-    ensures { Best (net map.now.reading map.now.roads.now) trip.source trip.label trip.target result }
+fn seek_again(map: Map, trip: Trip, lists: &mut Lists) -> u32
+    requires { AgainAsks map.reading map.nodes.now map.roads.now trip lists.old }
+    ensures { Best (net map.entry.reading map.entry.roads.now) trip.source trip.label trip.target result }
 {
     lists.clear();
     lists.seek(map, trip);
@@ -59,9 +59,9 @@ fn seek_again(map: &Map, trip: Trip, lists: &mut Lists) -> u32
 }
 
 // Whether roads, so read, lead from the trip's source to its target, whatever they take.
-fn leads(map: &Map, trip: Trip, lists: &mut Lists) -> bool
-    requires { LeadAsks (net map.now.reading map.now.roads.now).roads trip }
-    ensures { Leads (net map.now.reading map.now.roads.now).roads trip.source trip.target result }
+fn leads(map: Map, trip: Trip, lists: &mut Lists) -> bool
+    requires { LeadAsks (net map.reading map.roads.now).roads trip }
+    ensures { Leads (net map.entry.reading map.entry.roads.now).roads trip.source trip.target result }
 {
     lists.clear();
     search::chain(map, &mut lists.chains);
@@ -71,9 +71,9 @@ fn leads(map: &Map, trip: Trip, lists: &mut Lists) -> bool
 
 // Marks with the label 1 every junction that roads, so read, lead to from the source. The ways list
 // the junctions that are marked; the roads of the first ones are followed.
-fn reach(map: &Map, source: usize, lists: &mut Lists)
-    requires { ReachAsks (net map.now.reading map.now.roads.now).roads source lists.old }
-    ensures { Reaches (net map.now.reading map.now.roads.now).roads source lists.new.labels }
+fn reach(map: Map, source: usize, lists: &mut Lists)
+    requires { ReachAsks (net map.reading map.roads.now).roads source lists.old }
+    ensures { Reaches (net map.entry.reading map.entry.roads.now).roads source lists.new.labels }
 {
     lists.labels[source] = 1;
     lists.ways[0] = source as u16;
@@ -87,9 +87,9 @@ fn reach(map: &Map, source: usize, lists: &mut Lists)
 }
 
 // Marks the junctions where the roads that are entered at u are left, and lists them from `last` on.
-fn mark(map: &Map, u: usize, last: usize, lists: &mut Lists) -> usize
-    requires { MarkAsks (net map.now.reading map.now.roads.now).roads u last lists.old }
-    ensures { Marks (net map.now.reading map.now.roads.now).roads u 0 last lists.old result lists.new }
+fn mark(map: Map, u: usize, last: usize, lists: &mut Lists) -> usize
+    requires { MarkAsks (net map.reading map.roads.now).roads u last lists.old }
+    ensures { Marks (net map.entry.reading map.entry.roads.now).roads u 0 last lists.old result lists.new }
 {
     let mut end = last;
     let mut road = lists.last(u);

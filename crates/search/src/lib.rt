@@ -22,32 +22,32 @@ pub struct Map<'a> {
 
 impl Map<'_> {
     // How many roads there are.
-    pub fn count(&self) -> usize
-        ensures { result ≡ road_count self.now.roads.now }
+    pub fn count(self) -> usize
+        ensures { result ≡ road_count self.entry.roads.now }
     {
         self.roads.len() / network::ROAD_BYTES
     }
 
     // Where road k is entered.
-    pub fn entered(&self, k: usize) -> usize
-        requires { k < road_count self.now.roads.now }
-        ensures { result ≡ (net self.now.reading self.now.roads.now).roads.tail k }
+    pub fn entered(self, k: usize) -> usize
+        requires { k < road_count self.roads.now }
+        ensures { result ≡ (net self.entry.reading self.entry.roads.now).roads.tail k }
     {
         self.reading.entered(network::road_at(self.roads, k))
     }
 
     // Where road k is left.
-    pub fn left(&self, k: usize) -> usize
-        requires { k < road_count self.now.roads.now }
-        ensures { result ≡ (net self.now.reading self.now.roads.now).roads.head k }
+    pub fn left(self, k: usize) -> usize
+        requires { k < road_count self.roads.now }
+        ensures { result ≡ (net self.entry.reading self.entry.roads.now).roads.head k }
     {
         self.reading.left(network::road_at(self.roads, k))
     }
 
     // The key of junction v with this label: label and number of the junction together, and the place.
-    fn key(&self, v: usize, label: u32) -> u64
-        requires { KeyAsks self.now.nodes.now v }
-        ensures value { result ≡ packed (label + psi self.now.reading self.now.nodes.now v) v }
+    fn key(self, v: usize, label: u32) -> u64
+        requires { KeyAsks self.nodes.now v }
+        ensures value { result ≡ packed (label + psi self.entry.reading self.entry.nodes.now v) v }
         ensures upper_bound { result < 2 ^ 63 }
     {
         let number = self.reading.psi(network::potential_at(self.nodes, v));
@@ -108,10 +108,10 @@ impl Lists {
 
     // The best label of every junction, of all walks from the source with this label; 0 where none comes
     // there.
-    pub fn label_all(&mut self, map: &Map, source: usize, label: u32)
-        requires sets_out { SetsOut map.now.reading map.now.nodes.now map.now.roads.now source label }
+    pub fn label_all(&mut self, map: Map, source: usize, label: u32)
+        requires sets_out { SetsOut map.reading map.nodes.now map.roads.now source label }
         requires fresh { Fresh self.old }
-        ensures { Labels (net map.now.reading map.now.roads.now) source label self.new.labels }
+        ensures { Labels (net map.entry.reading map.entry.roads.now) source label self.new.labels }
     {
         let trip = Trip {
             source,
@@ -122,10 +122,10 @@ impl Lists {
     }
 
     // One search, in lists with no road on a chain, no label and no key.
-    pub fn seek(&mut self, map: &Map, trip: Trip)
-        requires sets_out { SetsOut map.now.reading map.now.nodes.now map.now.roads.now trip.source trip.label }
+    pub fn seek(&mut self, map: Map, trip: Trip)
+        requires sets_out { SetsOut map.reading map.nodes.now map.roads.now trip.source trip.label }
         requires fresh { Fresh self.old }
-        ensures { Explored (net map.now.reading map.now.roads.now) (junctions map.now.nodes.now) trip self.new }
+        ensures { Explored (net map.entry.reading map.entry.roads.now) (junctions map.entry.nodes.now) trip self.new }
     {
         chain(map, &mut self.chains);
         self.explore(map, trip);
@@ -159,9 +159,9 @@ impl Lists {
 
     // Settles one junction after another, the greatest key first, until the target is settled or none
     // waits.
-    fn explore(&mut self, map: &Map, trip: Trip)
-        requires { ExploreAsks map.now.reading map.now.nodes.now map.now.roads.now trip self.old }
-        ensures { Explored (net map.now.reading map.now.roads.now) (junctions map.now.nodes.now) trip self.new }
+    fn explore(&mut self, map: Map, trip: Trip)
+        requires { ExploreAsks map.reading map.nodes.now map.roads.now trip self.old }
+        ensures { Explored (net map.entry.reading map.entry.roads.now) (junctions map.entry.nodes.now) trip self.new }
     {
         let source = trip.source;
         self.labels[source] = trip.label;
@@ -178,9 +178,9 @@ impl Lists {
     }
 
     // Relaxes the roads that are entered at u, which was settled last.
-    fn spread(&mut self, map: &Map, u: usize, top: u64) -> u64
-        requires { SpreadAsks map.now.reading map.now.nodes.now map.now.roads.now u self.old top }
-        ensures { SpreadKeeps map.now.reading map.now.nodes.now map.now.roads.now u self.old self.new result }
+    fn spread(&mut self, map: Map, u: usize, top: u64) -> u64
+        requires { SpreadAsks map.reading map.nodes.now map.roads.now u self.old top }
+        ensures { SpreadKeeps map.entry.reading map.entry.nodes.now map.entry.roads.now u self.old self.new result }
     {
         let label = self.labels[u];
         let mut best = top;
@@ -193,9 +193,9 @@ impl Lists {
     }
 
     // Offers road k's end what the road brings from this label.
-    fn relax(&mut self, map: &Map, k: usize, label: u32, top: u64) -> u64
-        requires { RelaxAsks map.now.reading map.now.nodes.now map.now.roads.now k label self.old top }
-        ensures { RelaxKeeps map.now.reading map.now.nodes.now map.now.roads.now k label self.old self.new result }
+    fn relax(&mut self, map: Map, k: usize, label: u32, top: u64) -> u64
+        requires { RelaxAsks map.reading map.nodes.now map.roads.now k label self.old top }
+        ensures { RelaxKeeps map.entry.reading map.entry.nodes.now map.entry.roads.now k label self.old self.new result }
     {
         let road = network::road_at(map.roads, k);
         let v = map.reading.left(road);
@@ -223,9 +223,9 @@ impl Lists {
 
 // Chains the roads: for each junction the last road entered there, for each road the previous one
 // entered at the same junction, each plus one, 0 for none.
-pub fn chain(map: &Map, chains: &mut [u16; CHAINS])
-    requires { ChainAsks (net map.now.reading map.now.roads.now).roads chains.old }
-    ensures { Chained (net map.now.reading map.now.roads.now).roads (road_count map.now.roads.now) chains.new }
+pub fn chain(map: Map, chains: &mut [u16; CHAINS])
+    requires { ChainAsks (net map.reading map.roads.now).roads chains.old }
+    ensures { Chained (net map.entry.reading map.entry.roads.now).roads (road_count map.entry.roads.now) chains.new }
 {
     for k in 0..map.count() {
         let v = map.entered(k);

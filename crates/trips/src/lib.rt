@@ -32,19 +32,19 @@ pub fn find(
             battery,
         },
     };
-    lists.seek(&map, trip);
+    lists.seek(map, trip);
     if lists.labels[trip.target] == 0 {
         return Err(reasons::reason(nodes, roads, battery, trip, &mut lists));
     }
-    let count = count_back(&map, trip, &lists.ways);
-    write_back(&map, trip, &lists.ways, count, list);
+    let count = count_back(map, trip, &lists.ways);
+    write_back(map, trip, &lists.ways, count, list);
     Ok(count)
 }
 
 // How many roads lead back by the ways from the target to the source.
-fn count_back(map: &Map, trip: Trip, ways: &[u16]) -> usize
-    requires { Trailed (net map.now.reading map.now.roads.now).roads ways.now trip.source trip.target }
-    ensures { Counted (net map.now.reading map.now.roads.now).roads ways.now trip.source trip.target result }
+fn count_back(map: Map, trip: Trip, ways: &[u16]) -> usize
+    requires { Trailed (net map.reading map.roads.now).roads ways.now trip.source trip.target }
+    ensures { Counted (net map.entry.reading map.entry.roads.now).roads ways.now trip.source trip.target result }
 {
     let source = trip.source;
     let mut v = trip.target;
@@ -58,9 +58,9 @@ fn count_back(map: &Map, trip: Trip, ways: &[u16]) -> usize
 }
 
 // Writes them at the front of the list, the last one first.
-fn write_back(map: &Map, trip: Trip, ways: &[u16], count: usize, list: &mut [u16])
-    requires { WriteAsks (net map.now.reading map.now.roads.now).roads ways.now trip.source trip.target count list.old }
-    ensures { Written (net map.now.reading map.now.roads.now).roads ways.now trip.source trip.target list.old list.new }
+fn write_back(map: Map, trip: Trip, ways: &[u16], count: usize, list: &mut [u16])
+    requires { WriteAsks (net map.reading map.roads.now).roads ways.now trip.source trip.target count list.old }
+    ensures { Written (net map.entry.reading map.entry.roads.now).roads ways.now trip.source trip.target list.old list.new }
 {
     let mut v = trip.target;
     for i in (0..count).rev() {

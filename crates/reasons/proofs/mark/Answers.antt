@@ -17,15 +17,15 @@ module _ (rd : Reading) (rs : List ℕ) {u last : ℕ} {l : Lists} (a : MarkAsks
 
 pub left-v-requires : goal.left-v-requires
 left-v-requires c =
-    omega (arith, is_road c.requires (rw c.in-Some.is at c.loop-road.invariant), count_is c.args.map.now.reading c.args.map.now.roads.now)
+    omega (arith, is_road c.requires (rw c.in-Some.is at c.loop-road.invariant), count_is c.args.map.reading c.args.map.roads.now)
 
 pub bounds-lists-v : goal.bounds-lists-v
 bounds-lists-v c =
-    placed c.args.map.now.reading _ c.requires (rw c.in-Some.is at c.loop-road.invariant) c.left-v.ensures
+    placed c.args.map.reading _ c.requires (rw c.in-Some.is at c.loop-road.invariant) c.left-v.ensures
 
 pub bounds-lists-v-then-lists-v-eq0 : goal.bounds-lists-v-then-lists-v-eq0
 bounds-lists-v-then-lists-v-eq0 c =
-    placed c.args.map.now.reading _ c.requires (rw c.in-Some.is at c.loop-road.invariant) c.left-v.ensures
+    placed c.args.map.reading _ c.requires (rw c.in-Some.is at c.loop-road.invariant) c.left-v.ensures
 
 pub bounds-lists-end : goal.bounds-lists-end
 bounds-lists-end c =

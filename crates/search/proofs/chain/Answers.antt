@@ -19,28 +19,28 @@ module _ (rd : Reading) (rs : List ℕ) {chains : List ℕ} (a : ChainAsks (net 
 
 pub offset_bounds-chains-v : goal.offset_bounds-chains-v
 offset_bounds-chains-v c =
-    omega (arith, placed c.args.map.now.reading _ c.requires c.count-k-end.ensures c.loop-k-test.true c.entered-v.ensures)
+    omega (arith, placed c.args.map.reading _ c.requires c.count-k-end.ensures c.loop-k-test.true c.entered-v.ensures)
 
 pub bounds-chains-v : goal.bounds-chains-v
 bounds-chains-v c =
-    omega (arith, placed c.args.map.now.reading _ c.requires c.count-k-end.ensures c.loop-k-test.true c.entered-v.ensures)
+    omega (arith, placed c.args.map.reading _ c.requires c.count-k-end.ensures c.loop-k-test.true c.entered-v.ensures)
 
 pub bounds-chains-k : goal.bounds-chains-k
-bounds-chains-k c = omega (arith, few c.args.map.now.reading _ c.requires c.count-k-end.ensures c.loop-k-test.true)
+bounds-chains-k c = omega (arith, few c.args.map.reading _ c.requires c.count-k-end.ensures c.loop-k-test.true)
 
 pub overflow_cast-chains : goal.overflow_cast-chains
-overflow_cast-chains c = omega (arith, few c.args.map.now.reading _ c.requires c.count-k-end.ensures c.loop-k-test.true)
+overflow_cast-chains c = omega (arith, few c.args.map.reading _ c.requires c.count-k-end.ensures c.loop-k-test.true)
 
 pub offset_bounds-chains-v-in-loop-k : goal.offset_bounds-chains-v-in-loop-k
 offset_bounds-chains-v-in-loop-k c =
-    omega (arith, placed c.args.map.now.reading _ c.requires c.count-k-end.ensures c.loop-k-test.true c.entered-v.ensures)
+    omega (arith, placed c.args.map.reading _ c.requires c.count-k-end.ensures c.loop-k-test.true c.entered-v.ensures)
 
 pub bounds-chains-v-in-loop-k : goal.bounds-chains-v-in-loop-k
 bounds-chains-v-in-loop-k c =
-    omega (arith, placed c.args.map.now.reading _ c.requires c.count-k-end.ensures c.loop-k-test.true c.entered-v.ensures)
+    omega (arith, placed c.args.map.reading _ c.requires c.count-k-end.ensures c.loop-k-test.true c.entered-v.ensures)
 
 pub loop-k-preserved : goal.loop-k-preserved
 loop-k-preserved c =
     chained_more c.loop-k.invariant (omega arith)
-    (few c.args.map.now.reading _ c.requires c.count-k-end.ensures c.loop-k-test.true) c.entered-v.ensures
-    (placed c.args.map.now.reading _ c.requires c.count-k-end.ensures c.loop-k-test.true c.entered-v.ensures)
+    (few c.args.map.reading _ c.requires c.count-k-end.ensures c.loop-k-test.true) c.entered-v.ensures
+    (placed c.args.map.reading _ c.requires c.count-k-end.ensures c.loop-k-test.true c.entered-v.ensures)

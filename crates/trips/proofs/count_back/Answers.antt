@@ -16,7 +16,7 @@ entered-v-requires c =
     omega (
       arith,
       (further c.loop-v.invariant.walked.trail c.loop-v-test.true).road,
-      count_is c.args.map.now.reading c.args.map.now.roads.now,
+      count_is c.args.map.reading c.args.map.roads.now,
     )
 
 pub overflow_add-count : goal.overflow_add-count

@@ -11,7 +11,7 @@ loop-i-init c = write_start c.requires
 pub entered-v-requires : goal.entered-v-requires
 entered-v-requires c =
     let l = c.loop-i.invariant in
-    omega (arith, (further l.writing.walked.trail (write_on l (omega arith))).road, count_is c.args.map.now.reading c.args.map.now.roads.now)
+    omega (arith, (further l.writing.walked.trail (write_on l (omega arith))).road, count_is c.args.map.reading c.args.map.roads.now)
 
 pub loop-i-preserved : goal.loop-i-preserved
 loop-i-preserved c =

@@ -4,7 +4,7 @@ use Rattle.search.proofs.Lists.relax.Goals as goal
 
 pub step-brings-requires : goal.step-brings-requires
 step-brings-requires c =
-    step_asks c.args.map.now.reading _ _ c.requires.readable _ c.requires.road _ _ c.road_at-road.ensures c.requires.some c.requires.label_le
+    step_asks c.args.map.reading _ _ c.requires.readable _ c.requires.road _ _ c.road_at-road.ensures c.requires.some c.requires.label_le
 
 pub key-requires : goal.key-requires
 key-requires c = key_asks c.requires (head_at _ _ _ _ c.road_at-road.ensures c.left-v.ensures)
