@@ -7,30 +7,23 @@ ghost use Rattle.reading.specs.Reading.{net};
 ghost use Rattle.reasons.specs.Asks.{ReasonAsks, AgainAsks};
 ghost use Rattle.reasons.specs.Marks.{LeadAsks, Leads, ReachAsks, Reaches, MarkAsks, Marks};
 
-use battery::Battery;
 use reading::{Reading, Sense};
 use refusals::Refusal;
 use search::{Lists, Map, Trip};
 
 // Why no walk of the trip is feasible: a search back from its target for the least charge to set off
 // with; where no charge does, whether roads join the source to the target.
-pub fn reason(
-    nodes: &[u8],
-    roads: &[u8],
-    battery: Battery,
-    trip: Trip,
-    lists: &mut Lists,
-) -> Refusal
-    requires { ReasonAsks battery nodes.now roads.now trip lists.old }
-    ensures { Reason battery roads.now trip.source trip.target result }
+pub fn reason(map: Map, trip: Trip, lists: &mut Lists) -> Refusal
+    requires { ReasonAsks map.reading.battery map.nodes.now map.roads.now trip lists.old }
+    ensures { Reason map.entry.reading.battery map.entry.roads.now trip.source trip.target result }
 {
+    let battery = map.reading.battery;
     let backward = Map {
-        nodes,
-        roads,
         reading: Reading {
             sense: Sense::Backward,
             battery,
         },
+        ..map
     };
     let back = Trip {
         source: trip.target,
@@ -70,7 +63,8 @@ fn leads(map: Map, trip: Trip, lists: &mut Lists) -> bool
 }
 
 // Marks with the label 1 every junction that roads, so read, lead to from the source. The ways list
-// the junctions that are marked; the roads of the first ones are followed.
+// the junctions that are marked; the roads of the first ones are followed. The list grows as it is
+// read, so no `for` goes over it.
 fn reach(map: Map, source: usize, lists: &mut Lists)
     requires { ReachAsks (net map.reading map.roads.now).roads source lists.old }
     ensures { Reaches (net map.entry.reading map.entry.roads.now).roads source lists.new.labels }

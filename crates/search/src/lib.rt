@@ -56,7 +56,8 @@ impl Map<'_> {
 }
 
 // From where a search sets out and with what label, and the junction where it may stop. A target
-// that is no junction never stops it, and then every label is the best.
+// that is no junction never stops it, and then every label is the best: an `Option` would be taken
+// apart by every trip that has one.
 #[derive(Clone, Copy)]
 pub struct Trip {
     pub source: usize,
@@ -177,7 +178,8 @@ impl Lists {
         }
     }
 
-    // Relaxes the roads that are entered at u, which was settled last.
+    // Relaxes the roads that are entered at u, which was settled last. An iterator over them would hold
+    // the lists while labels change.
     fn spread(&mut self, map: Map, u: usize, top: u64) -> u64
         requires { SpreadAsks map.reading map.nodes.now map.roads.now u self.old top }
         ensures { SpreadKeeps map.entry.reading map.entry.nodes.now map.entry.roads.now u self.old self.new result }
@@ -234,7 +236,7 @@ pub fn chain(map: Map, chains: &mut [u16; CHAINS])
     }
 }
 
-// The road that an entry of the chains tells.
+// The road that an entry of the chains tells: the entries are numbers of 16 bits, since memory is fixed.
 fn linked(entry: u16) -> Option<usize>
     ensures { result ≡ linked entry }
 {

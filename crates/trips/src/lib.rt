@@ -34,14 +34,15 @@ pub fn find(
     };
     lists.seek(map, trip);
     if lists.labels[trip.target] == 0 {
-        return Err(reasons::reason(nodes, roads, battery, trip, &mut lists));
+        return Err(reasons::reason(map, trip, &mut lists));
     }
     let count = count_back(map, trip, &lists.ways);
     write_back(map, trip, &lists.ways, count, list);
     Ok(count)
 }
 
-// How many roads lead back by the ways from the target to the source.
+// How many roads lead back by the ways from the target to the source. How many steps the walk has is
+// what it finds out, so it is no `for`.
 fn count_back(map: Map, trip: Trip, ways: &[u16]) -> usize
     requires { Trailed (net map.reading map.roads.now).roads ways.now trip.source trip.target }
     ensures { Counted (net map.entry.reading map.entry.roads.now).roads ways.now trip.source trip.target result }
