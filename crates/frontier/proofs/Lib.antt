@@ -2,7 +2,9 @@
 mod Level
 -- the greatest key
 mod Top
--- a key raised, a key taken out
-mod Queue
+-- raise and remove: a key raised, a key taken out
+mod Changes
 -- a queue in which nothing waits
-pub mod Empty
+mod Empty
+-- pop: the place with the greatest key
+mod Popping

@@ -5,8 +5,9 @@ use mathlib.Core.Logic.{◌⊎◌, inl, inr, ◌≢◌}
 use Prim.Native.Nat.{ℕ, ◌+◌, ◌/◌, ◌≤◌, ◌<◌}
 use native.Mathlib.Decide.{dec_lt, ℕ_discrete}
 use native.Mathlib.Omega.{arith}
-use Rattle.lists.specs.Lists.{entry, AllZero}
-use Rattle.frontier.specs.Frontier.{places, keys_from}
+use Rattle.lists.specs.Lists.{entry}
+use Rattle.frontier.specs.Frontier.{places}
+use Rattle.frontier.specs.Queues.{Empty}
 use Rattle.walks.proofs.Bounds.{closed_bounds, early_stop}
 use Rattle.walks.specs.Claims.{Front}
 use Rattle.walks.specs.Label.{Net, Laws, after, Best}
@@ -99,8 +100,8 @@ module _ {N : Net} {psi : ℕ → ℕ} {n turns : ℕ} {trip : Trip} (l : Lists)
       best h v (inr z) = absurd (omega arith)
 
   -- no key is left
-  pub explored_all : Idle N psi n trip.source trip.label turns (entry l.labels) (entry l.ways) (waiting l.queue) → AllZero l.queue
+  pub explored_all : Idle N psi n trip.source trip.label turns (entry l.labels) (entry l.ways) (waiting l.queue) → Empty l.queue
       → Explored N n trip l
   explored_all i z =
-      let none : (v : ℕ) → waiting l.queue v ≡ 0 = λ v. ap (λ (y : ℕ). y / places) (z (keys_from + v)) in
+      let none : (v : ℕ) → waiting l.queue v ≡ 0 = λ v. ap (λ (y : ℕ). y / places) (z.none v) in
       record { best = λ v _. best_all laws i none v; route = route_all laws i none trip.target; emptied = λ _. z }

@@ -15,13 +15,13 @@ use Rattle.search.specs.declared.Lists.{Lists}
 use Rattle.search.proofs.Sizes.{junctions_fit, keys_fit}
 use Rattle.search.proofs.Packing.{packed_tells}
 
-module _ {rd : Reading} {ns rs : List ℕ} {k label : ℕ} {l : Lists} {top : ℕ} (a : RelaxAsks rd ns rs k label l top)
+module _ {rd : Reading} {ns rs : List ℕ} {k label : ℕ} {l : Lists} (a : RelaxAsks rd ns rs k label l)
     {v : ℕ} (v_is : v ≡ (net rd rs).roads.head k) where
   pub key_asks : KeyAsks ns v
   key_asks = record { within = omega (arith, heads_in rd ns rs a.readable k a.road); few = omega (arith, a.readable.few, junctions_fit) }
 
   module _ {x key : ℕ} (x_is : x ≡ (net rd rs).step k label) (key_is : key ≡ packed (x + psi rd ns v) v) where
-    pub offer_asks : key < 2 ^ 63 → OfferAsks l top v (record { road = k; label = x; key = key })
+    pub offer_asks : key < 2 ^ 63 → OfferAsks l v (record { road = k; label = x; key = key })
     offer_asks small =
         record {
           queued = a.underway.queued;
@@ -32,17 +32,17 @@ module _ {rd : Reading} {ns rs : List ℕ} {k label : ℕ} {l : Lists} {top : �
               ∙ packed_tells (x + psi rd ns v) v (omega (arith, key_asks.within, key_asks.few, keys_fit));
         }
 
-    module _ {l' : Lists} {r : ℕ} (o : Offered l v (record { road = k; label = x; key = key }) l' r) where
+    module _ {l' : Lists} (o : Offered l v (record { road = k; label = x; key = key }) l') where
       bounded : (u : ℕ) → Changes l v x k key l' → Dec (u ≡ v) → entry l'.labels u ≤ most_label rd.battery
       bounded u (passed h same ways_same keys_same) d = omega (arith, same u, a.underway.bounded u)
       bounded u (taken h put ways_put keys_put) (yes e) =
           omega (arith, ap (entry l'.labels) e, put.here, step_le rd rs k label)
       bounded u (taken h put ways_put keys_put) (no e) = omega (arith, put.rest u e, a.underway.bounded u)
 
-      real : (u : ℕ) → Changes l v x k key l' → Dec (u ≡ v) → 0 < key_at l'.queue u → 0 < waiting l'.queue u
+      real : (u : ℕ) → Changes l v x k key l' → Dec (u ≡ v) → 0 < key_at l'.queue.entries u → 0 < waiting l'.queue u
       real u (passed h same ways_same keys_same) d p =
           omega (arith, keys_same u, a.underway.real u (omega (arith, keys_same u)))
-      real u (taken h put ways_put keys_put) (yes e) p = omega (arith, ap (key_at l'.queue) e, keys_put.here, key_is)
+      real u (taken h put ways_put keys_put) (yes e) p = omega (arith, ap (key_at l'.queue.entries) e, keys_put.here, key_is)
       real u (taken h put ways_put keys_put) (no e) p =
           omega (arith, keys_put.rest u e, a.underway.real u (omega (arith, keys_put.rest u e)))
 
@@ -55,7 +55,7 @@ module _ {rd : Reading} {ns rs : List ℕ} {k label : ℕ} {l : Lists} {top : �
           (subst (λ (u : ℕ). Changes l u x k (packed (x + psi rd ns u) u) l') v_is
           (subst (λ (y : ℕ). Changes l v x k y l') key_is o.change))
 
-      pub relax_keeps : RelaxKeeps rd ns rs k label l l' r
+      pub relax_keeps : RelaxKeeps rd ns rs k label l l'
       relax_keeps =
           record {
             chains = o.chains;

@@ -33,10 +33,10 @@ module _ {N : Net} {psi : ℕ → ℕ} {n s l turns u k : ℕ} (laws : Laws N ps
   brings = ap (N.step k) at_u
 
   -- the new key is above the old one, and tells its junction
-  new_key : (v x : ℕ) → v < places → entry a.labels v < x → max (key_at a.queue v) (packed (x + psi v) v) / places ≡ x + psi v
+  new_key : (v x : ℕ) → v < places → entry a.labels v < x → max (key_at a.queue.entries v) (packed (x + psi v) v) / places ≡ x + psi v
   new_key v x h m = go (dec_lt 0 (waiting a.queue v))
     where
-      go : Dec (0 < waiting a.queue v) → max (key_at a.queue v) (packed (x + psi v) v) / places ≡ x + psi v
+      go : Dec (0 < waiting a.queue v) → max (key_at a.queue.entries v) (packed (x + psi v) v) / places ≡ x + psi v
       go (yes p) = omega (arith, busy.state.keyed v p)
       go (no p) = omega arith
 
@@ -67,15 +67,15 @@ module _ {N : Net} {psi : ℕ → ℕ} {n s l turns u k : ℕ} (laws : Laws N ps
 
 -- ---- the loop: from the last road down to the one in hand
 
-pub record SpreadLoop (rd : Reading) (ns rs : List ℕ) (u next : ℕ) (l l' : Lists) (top : ℕ) : Type 0 where
+pub record SpreadLoop (rd : Reading) (ns rs : List ℕ) (u next : ℕ) (l l' : Lists) : Type 0 where
   pub chains : l'.chains ≡ l.chains
-  pub underway : Underway rd l' top
+  pub underway : Underway rd l'
   pub low : next ≤ road_count rs
   pub hit : (j : ℕ) → next ≡ j + 1 → (net rd rs).roads.tail j ≡ u
   pub spreads : Spreads rd ns rs u (road_count rs) next l l'
 
-module _ {rd : Reading} {ns rs : List ℕ} {u : ℕ} {l : Lists} {top : ℕ} (a : SpreadAsks rd ns rs u l top) where
-  module _ {k : ℕ} {l₁ : Lists} {top₁ : ℕ} (i : SpreadLoop rd ns rs u (suc k) l l₁ top₁) where
+module _ {rd : Reading} {ns rs : List ℕ} {u : ℕ} {l : Lists} (a : SpreadAsks rd ns rs u l) where
+  module _ {k : ℕ} {l₁ : Lists} (i : SpreadLoop rd ns rs u (suc k) l l₁) where
     pub is_road : k < road_count rs
     is_road = omega (arith, i.low)
 
@@ -85,7 +85,7 @@ module _ {rd : Reading} {ns rs : List ℕ} {u : ℕ} {l : Lists} {top : ℕ} (a 
     before : Link (net rd rs).roads u (previous_of l.chains k) k
     before = subst (λ (v : ℕ). Link (net rd rs).roads v (previous_of l.chains k) k) here (a.chained.previous k is_road)
 
-    module _ {l₂ : Lists} {top₂ : ℕ} (r : RelaxKeeps rd ns rs k (entry l.labels u) l₁ l₂ top₂) {road : Option ℕ}
+    module _ {l₂ : Lists} (r : RelaxKeeps rd ns rs k (entry l.labels u) l₁ l₂) {road : Option ℕ}
         (road_is : road ≡ linked (previous_of l₂.chains k)) where
       on : Spreads rd ns rs u (road_count rs) (previous_of l.chains k) l l₂
       on s label turns b =
@@ -99,7 +99,7 @@ module _ {rd : Reading} {ns rs : List ℕ} {u : ℕ} {l : Lists} {top : ℕ} (a 
       next_is : entry_of road ≡ previous_of l.chains k
       next_is = rw (road_is, entry_linked (previous_of l₂.chains k), r.chains, i.chains)
 
-      pub spread_next : SpreadLoop rd ns rs u (entry_of road) l l₂ top₂
+      pub spread_next : SpreadLoop rd ns rs u (entry_of road) l l₂
       spread_next =
           rw next_is
           (record {
@@ -110,8 +110,8 @@ module _ {rd : Reading} {ns rs : List ℕ} {u : ℕ} {l : Lists} {top : ℕ} (a 
             spreads = on;
           })
 
-module _ {rd : Reading} {ns rs : List ℕ} {u : ℕ} {l l₁ : Lists} {top : ℕ} where
-  pub spread_done : (road : Option ℕ) → SpreadLoop rd ns rs u (entry_of road) l l₁ top → ((k : ℕ) → road ≡ Some k → ⊥)
-      → SpreadKeeps rd ns rs u l l₁ top
+module _ {rd : Reading} {ns rs : List ℕ} {u : ℕ} {l l₁ : Lists} where
+  pub spread_done : (road : Option ℕ) → SpreadLoop rd ns rs u (entry_of road) l l₁ → ((k : ℕ) → road ≡ Some k → ⊥)
+      → SpreadKeeps rd ns rs u l l₁
   spread_done None i n = record { chains = i.chains; underway = i.underway; spreads = i.spreads }
   spread_done (Some k) i n = absurd (n k refl)

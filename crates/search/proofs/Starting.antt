@@ -7,17 +7,18 @@ use native.Mathlib.Omega.{arith}
 use lib.ListN.{length, set}
 use Rattle.lists.proofs.Stores.{set_put}
 use Rattle.lists.specs.Lists.{entry, Put}
-use Rattle.frontier.proofs.Empty.{empty, empty_top}
-use Rattle.frontier.specs.Frontier.{places, keys_from, key_at, Raises, Now}
+use Rattle.frontier.specs.Frontier.{places, key_at}
+use Rattle.frontier.specs.Queues.{Raises, Now}
+use Rattle.frontier.specs.declared.Queue.{Queue}
 use Rattle.network.specs.Files.{junctions}
 use Rattle.reading.specs.Reading.{most_label, psi, net}
 use Rattle.reading.specs.declared.Reading.{Reading}
 use Rattle.search.specs.Searches.{ExploreAsks}
-use Rattle.search.specs.Sizes.{most_places, queue_size}
+use Rattle.search.specs.Sizes.{most_places}
 use Rattle.search.specs.Steps.{waiting, packed}
 use Rattle.search.specs.declared.Lists.{Lists}
 use Rattle.search.specs.declared.Trip.{Trip}
-use Rattle.search.proofs.Sizes.{junctions_fit, keys_fit, queue_whole}
+use Rattle.search.proofs.Sizes.{junctions_fit, keys_fit}
 use Rattle.search.proofs.Exploring.{ExploreLoop}
 use Rattle.search.proofs.Packing.{packed_tells, put_waiting}
 use Rattle.search.proofs.Beginning.{begin}
@@ -28,18 +29,17 @@ module _ {rd : Reading} {ns rs : List ℕ} {trip : Trip} {l : Lists} (a : Explor
   placed = omega (arith, a.sets_out.source_in, a.sets_out.readable.few, junctions_fit)
 
   module _ {key : ℕ} (key_is : key ≡ packed (trip.label + psi rd ns trip.source) trip.source) where
-    pub first_raises : key < 2 ^ 63 → length l.queue ≡ queue_size → Raises l.queue 0 trip.source key
-    first_raises small long =
+    pub first_raises : key < 2 ^ 63 → Raises l.queue trip.source key
+    first_raises small =
         record {
-          frontier = empty l.queue a.no_key (omega arith) (ap (λ (n : ℕ). n % 8) long ∙ queue_whole);
-          best = empty_top l.queue a.no_key;
-          within = omega (arith, placed);
+          queued = a.no_key.queued;
+          within = omega (arith, placed, keys_fit);
           key_small = small;
           tells = λ _. ap (λ (n : ℕ). n % places) key_is ∙ packed_tells _ trip.source (omega (arith, placed, keys_fit));
         }
 
-    module _ (long : length l.labels ≡ most_places) {queue : List ℕ} {top : ℕ}
-        (n : Now l.queue trip.source (max (key_at l.queue trip.source) key) queue top) where
+    module _ (long : length l.labels ≡ most_places) {q : Queue}
+        (n : Now l.queue trip.source (max (key_at l.queue.entries trip.source) key) q) where
       labels : List ℕ
       labels = set l.labels trip.source trip.label
 
@@ -47,32 +47,32 @@ module _ {rd : Reading} {ns rs : List ℕ} {trip : Trip} {l : Lists} (a : Explor
       unfolding labels
       put_label = set_put l.labels (omega (arith, placed)) refl
 
-      put_key : Put (waiting l.queue) (waiting queue) trip.source (trip.label + psi rd ns trip.source)
-      put_key = put_waiting l.queue queue n.put (omega (arith, a.no_key (keys_from + trip.source), key_is, placed, keys_fit))
+      put_key : Put (waiting l.queue) (waiting q) trip.source (trip.label + psi rd ns trip.source)
+      put_key = put_waiting l.queue q n.put (omega (arith, a.no_key.none trip.source, key_is, placed, keys_fit))
 
       bounded : (v : ℕ) → Dec (v ≡ trip.source) → entry labels v ≤ most_label rd.battery
       bounded v (yes e) = omega (arith, ap (entry labels) e, put_label.here, a.sets_out.label_le)
       bounded v (no e) = omega (arith, put_label.rest v e, a.no_label v)
 
-      real : (v : ℕ) → 0 < key_at queue v → Dec (v ≡ trip.source) → 0 < waiting queue v
-      real v h (yes e) = omega (arith, ap (waiting queue) e, put_key.here, a.sets_out.some)
-      real v h (no e) = absurd (omega (arith, n.put.rest v e, a.no_key (keys_from + v)))
+      real : (v : ℕ) → 0 < key_at q.entries v → Dec (v ≡ trip.source) → 0 < waiting q v
+      real v h (yes e) = omega (arith, ap (waiting q) e, put_key.here, a.sets_out.some)
+      real v h (no e) = absurd (omega (arith, n.put.rest v e, a.no_key.none v))
 
       pub explore_start : ExploreLoop rd ns rs trip
-          (record { chains = l.chains; labels = set l.labels trip.source trip.label; ways = l.ways; queue = queue }) top
+          (record { chains = l.chains; labels = set l.labels trip.source trip.label; ways = l.ways; queue = q })
       unfolding labels
       explore_start =
           record {
             chained = a.chained;
             underway =
                 record {
-                  queued = record { frontier = n.frontier; best = n.best };
+                  queued = n.queued;
                   bounded = λ v. bounded v (ℕ_discrete v trip.source);
                   real = λ v h. real v h (ℕ_discrete v trip.source);
                 };
             turns = 0;
             idle =
                 begin (net rd rs) (psi rd ns) (junctions ns) trip.source trip.label (entry l.labels) (entry l.ways) (waiting l.queue)
-                (entry labels) (waiting queue) a.no_label (λ v. ap (λ (y : ℕ). y / places) (a.no_key (keys_from + v)))
+                (entry labels) (waiting q) a.no_label (λ v. ap (λ (y : ℕ). y / places) (a.no_key.none v))
                 put_label put_key a.sets_out.some a.sets_out.source_in;
           }

@@ -1,6 +1,5 @@
 -- How long the lists of a search are. No promise cites this file.
 use Rattle.std.specs.Prelude.{ℕ, ◌+◌}
-use Rattle.frontier.specs.Frontier.{keys_from}
 use Rattle.network.specs.Files.{most_junctions, most_roads}
 
 -- a place for each junction: its label, its key, the head of its chain
@@ -10,10 +9,6 @@ most_places = most_junctions
 -- a way for each place
 abbrev pub most_ways : ℕ
 most_ways = most_places
-
--- the queue's tree, and a key for each place
-abbrev pub queue_size : ℕ
-queue_size = keys_from + most_places
 
 -- a head for each place, and a link for each road
 abbrev pub chains_size : ℕ

@@ -10,6 +10,7 @@ ghost use Rattle.search.specs.Searches.{SetsOut, Fresh, ExploreAsks, Explored, L
 ghost use Rattle.search.specs.Sizes.{most_places};
 ghost use Rattle.search.specs.Steps.{packed, KeyAsks, OfferAsks, Offered, RelaxAsks, RelaxKeeps, SpreadAsks, SpreadKeeps};
 
+use frontier::Queue;
 use reading::Reading;
 
 // A network and how its roads are read.
@@ -79,9 +80,7 @@ pub const MOST_PLACES: usize = network::MOST_JUNCTIONS;
 
 pub const MOST_WAYS: usize = MOST_PLACES;
 
-// The queue has its tree besides, the chains a link for each road.
-pub const QUEUE: usize = frontier::KEYS + MOST_PLACES;
-
+// The chains have a link for each road besides.
 pub const CHAINS: usize = MOST_PLACES + network::MOST_ROADS;
 
 // The lists of a search: the chains of the roads, for each junction its label and its way (the road by
@@ -91,7 +90,7 @@ pub struct Lists {
     pub chains: [u16; CHAINS],
     pub labels: [u32; MOST_PLACES],
     pub ways: [u16; MOST_WAYS],
-    pub queue: [u64; QUEUE],
+    pub queue: Queue,
 }
 
 impl Lists {
@@ -103,7 +102,7 @@ impl Lists {
             chains: [0; CHAINS],
             labels: [0; MOST_PLACES],
             ways: [0; MOST_WAYS],
-            queue: [0; QUEUE],
+            queue: Queue::new(),
         }
     }
 
@@ -166,38 +165,33 @@ impl Lists {
     {
         let source = trip.source;
         self.labels[source] = trip.label;
-        let first = map.key(source, trip.label);
-        let mut top = frontier::raise(&mut self.queue, 0, source, first);
-        while top != 0 {
-            let u = (top % frontier::PLACES) as usize;
-            let rest = frontier::remove(&mut self.queue, u);
+        self.queue.raise(source, map.key(source, trip.label));
+        while let Some(u) = self.queue.pop() {
             if u == trip.target {
                 return;
             }
-            top = self.spread(map, u, rest);
+            self.spread(map, u);
         }
     }
 
     // Relaxes the roads that are entered at u, which was settled last. An iterator over them would hold
     // the lists while labels change.
-    fn spread(&mut self, map: Map, u: usize, top: u64) -> u64
-        requires { SpreadAsks map.reading map.nodes.now map.roads.now u self.old top }
-        ensures { SpreadKeeps map.entry.reading map.entry.nodes.now map.entry.roads.now u self.old self.new result }
+    fn spread(&mut self, map: Map, u: usize)
+        requires { SpreadAsks map.reading map.nodes.now map.roads.now u self.old }
+        ensures { SpreadKeeps map.entry.reading map.entry.nodes.now map.entry.roads.now u self.old self.new }
     {
         let label = self.labels[u];
-        let mut best = top;
         let mut road = self.last(u);
         while let Some(k) = road {
-            best = self.relax(map, k, label, best);
+            self.relax(map, k, label);
             road = self.previous(k);
         }
-        best
     }
 
     // Offers road k's end what the road brings from this label.
-    fn relax(&mut self, map: Map, k: usize, label: u32, top: u64) -> u64
-        requires { RelaxAsks map.reading map.nodes.now map.roads.now k label self.old top }
-        ensures { RelaxKeeps map.entry.reading map.entry.nodes.now map.entry.roads.now k label self.old self.new result }
+    fn relax(&mut self, map: Map, k: usize, label: u32)
+        requires { RelaxAsks map.reading map.nodes.now map.roads.now k label self.old }
+        ensures { RelaxKeeps map.entry.reading map.entry.nodes.now map.entry.roads.now k label self.old self.new }
     {
         let road = network::road_at(map.roads, k);
         let v = map.reading.left(road);
@@ -207,19 +201,19 @@ impl Lists {
             label: brings,
             key: map.key(v, brings),
         };
-        self.take(top, v, offer)
+        self.take(v, offer);
     }
 
     // Takes the offer to v where it betters the label. There is no branch, since which it is cannot be
     // foretold.
-    fn take(&mut self, top: u64, v: usize, offer: Offer) -> u64
-        requires { OfferAsks self.old top v offer }
-        ensures { Offered self.old v offer self.new result }
+    fn take(&mut self, v: usize, offer: Offer)
+        requires { OfferAsks self.old v offer }
+        ensures { Offered self.old v offer self.new }
     {
         let old = self.labels[v];
         self.labels[v] = if_better(old, offer, offer.label, old);
         self.ways[v] = if_better(old, offer, offer.road, self.ways[v]);
-        frontier::raise(&mut self.queue, top, v, if_better(old, offer, offer.key, 0))
+        self.queue.raise(v, if_better(old, offer, offer.key, 0));
     }
 }
 
