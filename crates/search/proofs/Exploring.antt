@@ -1,12 +1,10 @@
 -- A search on its way: one turn, and the two ends. Assumes nothing.
-use mathlib.Core.Path.{◌≡◌, refl, sym, ap, subst}
+use mathlib.Core.Path.{◌≡◌, refl, sym, subst}
 use mathlib.Core.List.{List}
 use Rattle.std.proofs.Common.{None}
 use Prim.Native.Nat.{ℕ, suc, ◌<◌}
-use native.Mathlib.Decide.{ℕ_discrete}
 use native.Mathlib.Omega.{arith}
 use Rattle.lists.specs.Lists.{entry}
-use Rattle.frontier.specs.Frontier.{key_at}
 use Rattle.frontier.specs.Queues.{Popped, Pops}
 use Rattle.frontier.specs.declared.Queue.{Queue}
 use Rattle.network.specs.Files.{junctions, road_count}
@@ -18,10 +16,9 @@ use Rattle.reading.proofs.Net.{count_is}
 use Rattle.search.specs.Chains.{Chained}
 use Rattle.search.specs.State.{unsettled, Idle, Next}
 use Rattle.search.specs.Searches.{Explored}
-use Rattle.search.specs.Steps.{waiting, BusyIn, Underway, SpreadAsks, SpreadKeeps}
+use Rattle.search.specs.Steps.{waiting, BusyIn, Underway, SpreadKeeps}
 use Rattle.search.specs.declared.Lists.{Lists}
 use Rattle.search.specs.declared.Trip.{Trip}
-use Rattle.search.proofs.Sizes.{junctions_fit}
 use Rattle.search.proofs.Finishing.{explored_target, explored_all}
 use Rattle.search.proofs.Busy.{busy_idle}
 use Rattle.search.proofs.Packing.{put_waiting}
@@ -57,27 +54,6 @@ module _ {rd : Reading} {ns rs : List ℕ} {trip : Trip} (readable : Readable rd
     settled =
         settle (net rd rs) (psi rd ns) (junctions ns) trip.source trip.label i.turns u
         (entry l.labels) (entry l.ways) (waiting l.queue) (waiting q) i.idle next (put_waiting l.queue q p.now.put refl)
-
-    real : (v : ℕ) → 0 < key_at q.entries v → Dec (v ≡ u) → 0 < waiting q v
-    real v h (yes e) = absurd (omega (arith, ap (key_at q.entries) e, p.now.put.here))
-    real v h (no e) =
-        let r = p.now.put.rest v e in
-        omega (arith, i.underway.real v (omega arith))
-
-    pub spread_asks : SpreadAsks rd ns rs u (record { chains = l.chains; labels = l.labels; ways = l.ways; queue = q })
-    spread_asks =
-        record {
-          readable = readable;
-          chained = i.chained;
-          underway =
-              record {
-                queued = p.now.queued;
-                bounded = i.underway.bounded;
-                real = λ v h. real v h (ℕ_discrete v u);
-              };
-          within = omega (arith, i.idle.state.inside u labelled, readable.few, junctions_fit);
-          some = labelled;
-        }
 
     -- the target is settled
     pub target_settled : u ≡ trip.target

@@ -1,14 +1,14 @@
 -- The beginning of a search: the source alone has a label, and waits. Assumes nothing.
-use mathlib.Core.Path.{◌≡◌, refl, ap, ◌∙◌}
+use mathlib.Core.Path.{◌≡◌, refl, ap}
 use mathlib.Core.List.{List}
-use Prim.Native.Nat.{ℕ, ◌+◌, ◌/◌, ◌%◌, ◌^◌, ◌≤◌, ◌<◌, max}
+use Prim.Native.Nat.{ℕ, ◌+◌, ◌/◌, ◌≤◌, ◌<◌, max}
 use native.Mathlib.Decide.{ℕ_discrete}
 use native.Mathlib.Omega.{arith}
 use lib.ListN.{length, set}
 use Rattle.lists.proofs.Stores.{set_put}
 use Rattle.lists.specs.Lists.{entry, Put}
 use Rattle.frontier.specs.Frontier.{places, key_at}
-use Rattle.frontier.specs.Queues.{Raises, Now}
+use Rattle.frontier.specs.Queues.{Now}
 use Rattle.frontier.specs.declared.Queue.{Queue}
 use Rattle.network.specs.Files.{junctions}
 use Rattle.reading.specs.Reading.{most_label, psi, net}
@@ -20,7 +20,7 @@ use Rattle.search.specs.declared.Lists.{Lists}
 use Rattle.search.specs.declared.Trip.{Trip}
 use Rattle.search.proofs.Sizes.{junctions_fit, keys_fit}
 use Rattle.search.proofs.Exploring.{ExploreLoop}
-use Rattle.search.proofs.Packing.{packed_tells, put_waiting}
+use Rattle.search.proofs.Packing.{put_waiting}
 use Rattle.search.proofs.Beginning.{begin}
 
 module _ {rd : Reading} {ns rs : List ℕ} {trip : Trip} {l : Lists} (a : ExploreAsks rd ns rs trip l) where
@@ -29,15 +29,6 @@ module _ {rd : Reading} {ns rs : List ℕ} {trip : Trip} {l : Lists} (a : Explor
   placed = omega (arith, a.sets_out.source_in, a.sets_out.readable.few, junctions_fit)
 
   module _ {key : ℕ} (key_is : key ≡ packed (trip.label + psi rd ns trip.source) trip.source) where
-    pub first_raises : key < 2 ^ 63 → Raises l.queue trip.source key
-    first_raises small =
-        record {
-          queued = a.no_key.queued;
-          within = omega (arith, placed, keys_fit);
-          key_small = small;
-          tells = λ _. ap (λ (n : ℕ). n % places) key_is ∙ packed_tells _ trip.source (omega (arith, placed, keys_fit));
-        }
-
     module _ (long : length l.labels ≡ most_places) {q : Queue}
         (n : Now l.queue trip.source (max (key_at l.queue.entries trip.source) key) q) where
       labels : List ℕ
