@@ -13,6 +13,7 @@ use battery::Battery;
 use promises::SetOffQuestion;
 use reading::{Reading, Sense};
 use refusals::Refusal;
+use search::{Lists, Map};
 
 // Writes one number for each junction at the front of the list: the least charge to set off with,
 // and -1 where no charge up to a full battery does.
@@ -36,15 +37,19 @@ fn fill(nodes: &[u8], roads: &[u8], battery: Battery, depot: usize, list: &mut [
     requires { FillAsks nodes.now roads.now battery depot list.old }
     ensures { Numbered nodes.now roads.now battery depot list.old list.new }
 {
-    let mut labels = [0u32; search::MOST_PLACES];
-    let reading = Reading {
-        sense: Sense::Backward,
-        battery,
+    let mut lists = Lists::new();
+    let map = Map {
+        nodes,
+        roads,
+        reading: Reading {
+            sense: Sense::Backward,
+            battery,
+        },
     };
-    search::label_all(nodes, roads, reading, depot, battery.size + 1, &mut labels);
+    lists.label_all(map, depot, battery.size + 1);
     write_charges(
         battery,
-        &labels,
+        &lists.labels,
         nodes.len() / network::JUNCTION_BYTES,
         list,
     );
@@ -55,10 +60,8 @@ fn write_charges(battery: Battery, labels: &[u32], count: usize, list: &mut [i32
     requires { WriteAsks battery labels.now count list.old }
     ensures { Written battery labels.now count list.old list.new }
 {
-    let mut v = 0;
-    while v < count {
-        list[v] = charge_of(battery, labels[v]);
-        v += 1;
+    for (v, label) in labels[..count].iter().enumerate() {
+        list[v] = charge_of(battery, *label);
     }
 }
 

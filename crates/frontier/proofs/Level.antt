@@ -44,10 +44,6 @@ run_join {f} {a} {b} {c} {d} {x} {y} {r} p q l e = record {
     is (i, s, t, u) (j, s', t', u') (yes h) = (j, omega arith, omega arith, omega arith)
     is (i, s, t, u) (j, s', t', u') (no h) = (i, s, omega arith, omega arith)
 
--- it is small where all are
-pub run_small : {f : ℕ → ℕ} {a b m : ℕ} (n : ℕ) → Run f a b m → ((i : ℕ) → f i < n) → m < n
-run_small n r s = omega (arith, r.is.3, s r.is.0)
-
 pub run_group : {f : ℕ → ℕ} {m : ℕ} (i : ℕ) → Run f (i * 8) (i * 8 + 8) m → Greatest f i m
 run_group i r = record {
   most = λ j h. r.most j (omega arith) (omega arith);

@@ -1,10 +1,10 @@
 -- the greatest of a group of eight, and of all groups but one, after a change
 mod Level
--- entries are small
-mod Small
 -- the greatest key
 mod Top
--- a key raised, a key taken out
-mod Queue
+-- raise and remove: a key raised, a key taken out
+mod Changes
 -- a queue in which nothing waits
-pub mod Empty
+mod Empty
+-- pop: the place with the greatest key
+mod Popping

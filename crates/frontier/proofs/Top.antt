@@ -2,7 +2,7 @@
 use mathlib.Core.Path.{◌≡◌, refl, sym, ap, ◌∙◌}
 use mathlib.Core.Logic.{◌⊎◌, ◌≢◌, inl, inr}
 use mathlib.Core.List.{List}
-use Prim.Native.Nat.{ℕ, ◌+◌, ◌*◌, ◌-◌, ◌%◌, ◌^◌, ◌≤◌, ◌<◌, max}
+use Prim.Native.Nat.{ℕ, ◌+◌, ◌*◌, ◌-◌, ◌%◌, ◌≤◌, ◌<◌, max}
 use native.Mathlib.Decide.{ℕ_discrete, dec_lt}
 use native.Mathlib.Omega.{arith}
 use Rattle.lists.specs.Lists.{entry, Put}
@@ -75,11 +75,3 @@ top_raise {queue} {queue'} {top} {v} key t p k = record {
     is (no l) (inl z) d = inl (omega arith)
     is (no l) (inr w) (yes e) = inr (at (omega arith) e (omega (arith, p.here, ap (key_at queue) e)))
     is (no l) (inr w) (no e) = inr (at (omega arith) refl (p.rest (top % places) e ∙ w))
-
--- it is small, as all are
-pub top_small : {queue : List ℕ} {top : ℕ} → Frontier queue → Top queue top → top < 2 ^ 63
-top_small {queue} {top} f t = go t.is
-  where
-    go : (top ≡ 0) ⊎ (key_at queue (top % places) ≡ top) → top < 2 ^ 63
-    go (inl z) = omega arith
-    go (inr e) = omega (arith, f.small.below (keys_from + top % places))

@@ -1,2 +1,3 @@
 pub mod Frontier
 pub mod Groups
+pub mod Queues

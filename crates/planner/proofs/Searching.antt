@@ -1,5 +1,5 @@
 -- From the search's promise, which speaks of labels, to that of best route, which speaks of roads and charges. Assumes nothing.
-use Rattle.std.specs.Prelude.{Err, None, Ok, Option, Some}
+use Rattle.std.specs.Prelude.{Err, None, Ok, Option, Some, Result}
 use mathlib.Core.Path.{◌≡◌, refl, ap, ◌∙◌}
 use mathlib.Core.List.{List, ◌++◌}
 use Prim.Native.Nat.{ℕ, suc, ◌+◌, ◌≤◌, ◌<◌}
@@ -17,8 +17,6 @@ use Rattle.reading.specs.Reading.{forward, net}
 use Rattle.search.specs.declared.Trip.{Trip}
 use Rattle.trips.specs.Found.{BestOf, Finds, nowhere, route}
 use Rattle.trips.specs.Asks.{FindAsks}
-use Rattle.trips.specs.declared.Found.{Found}
-use Rattle.trips.specs.declared.Found.TheVariants.{Nowhere, Roads}
 use Rattle.promises.specs.Given.{plan_numbers}
 use Rattle.promises.specs.Order.{battery_of, plan_van, plan_fault}
 use Rattle.promises.specs.Promises.{Arrives, Most, Plans}
@@ -53,7 +51,7 @@ find_asks ns rs q list c =
     }
 
 -- what the search promises for the van v
-abbrev pub FindsFor : List ℕ → List ℕ → PlanQuestion → Van → List ℕ → Found → List ℕ → Type 0
+abbrev pub FindsFor : List ℕ → List ℕ → PlanQuestion → Van → List ℕ → Result ℕ Refusal → List ℕ → Type 0
 FindsFor ns rs q v list found list' = Finds v.battery ns rs (trip_for q v) list found list'
 
 -- ---- labels and charges
@@ -86,7 +84,7 @@ module _ (rs : List ℕ) (q : PlanQuestion) where
 
 module _ (ns rs : List ℕ) (q : PlanQuestion) (list : List ℕ) (passed : plan_fault ns rs q (length list) ≡ Ok tt) where
   -- no route
-  pub plans_none : (r : Refusal) (list' : List ℕ) → FindsFor ns rs q (plan_van q) list (Nowhere r) list'
+  pub plans_none : (r : Refusal) (list' : List ℕ) → FindsFor ns rs q (plan_van q) list (Err r) list'
       → Plans ns rs q list (plan_numbers (Err r)) list'
   plans_none r list' (nowhere best reason) = Plans.none r passed (λ ks v a. omega (arith, bound rs q 0 best ks v a)) reason
 
@@ -102,7 +100,7 @@ pub record BestWalk (ns rs : List ℕ) (q : PlanQuestion) (list : List ℕ) (cou
   pub list_is : list' ≡ by ++ drop (length by) list
 
 pub best_walk : (ns rs : List ℕ) (q : PlanQuestion) (list : List ℕ) (count : ℕ) (list' : List ℕ)
-    → FindsFor ns rs q (plan_van q) list (Roads count) list'
+    → FindsFor ns rs q (plan_van q) list (Ok count) list'
     → BestWalk ns rs q list count list'
 unfolding net brings
 best_walk ns rs q list count list' (route ks few walk once some best) =

@@ -10,7 +10,6 @@ use battery::{Profile, Van};
 use promises::{DriveQuestion, PlanQuestion, ProfileQuestion, Route};
 use refusals::Refusal;
 use search::Trip;
-use trips::Found;
 
 // Network check: success or the first fault.
 pub fn check(nodes: &[u8], roads: &[u8]) -> Result<(), Refusal>
@@ -79,11 +78,8 @@ fn plan(
         label: van.charge + 1,
         target: question.target as usize,
     };
-    let found = trips::find(nodes, roads, battery, trip, list);
-    match found {
-        Found::Nowhere(r) => Err(r),
-        Found::Roads(count) => drive_found(roads, &list[..count], trip.source, van),
-    }
+    let count = trips::find(nodes, roads, battery, trip, list)?;
+    drive_found(roads, &list[..count], trip.source, van)
 }
 
 // The drive of a route that is known to be drivable, so that no fault is found.

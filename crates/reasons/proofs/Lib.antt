@@ -1,7 +1,3 @@
--- seek_again: another search in the same lists
-mod Again
--- clear: no road on a chain, no label
-mod Clearing
 -- a junction more is marked and listed
 mod Listing
 -- mark: the roads of one junction, along its chain

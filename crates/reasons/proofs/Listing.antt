@@ -9,17 +9,18 @@ use lib.ListN.{length, set, length-set}
 use Rattle.lists.proofs.Stores.{set_put}
 use Rattle.lists.proofs.Zeros.{zeros_put}
 use Rattle.lists.specs.Lists.{entry, Put, zeros}
+use Rattle.search.specs.Sizes.{most_places}
 use Rattle.reasons.specs.Marks.{unmarked, Listed}
 
-module _ (labels : List ℕ) (v : ℕ) (within : v < length labels) (none : entry labels v ≡ 0) where
+module _ (labels : List ℕ) (long : length labels ≡ most_places) {v : ℕ} (within : v < most_places) (none : entry labels v ≡ 0) where
   pub put_mark : Put (entry labels) (entry (set labels v 1)) v 1
-  put_mark = set_put labels within refl
+  put_mark = set_put labels (omega arith) refl
 
   pub one_fewer : suc (unmarked (set labels v 1)) ≡ unmarked labels
   one_fewer =
       omega (
         arith,
-        zeros_put put_mark none (omega arith) (length labels) within,
+        zeros_put put_mark none (omega arith) (length labels) (omega arith),
         ap (zeros (entry (set labels v 1))) (length-set labels v 1),
       )
 
@@ -36,7 +37,7 @@ module _ (labels : List ℕ) (v : ℕ) (within : v < length labels) (none : entr
   pub marked_before : (w : ℕ) → w ≢ v → 0 < entry (set labels v 1) w → 0 < entry labels w
   marked_before w e h = omega (arith, put_mark.rest w e)
 
-  module _ (ways : List ℕ) (last : ℕ) (room : last < length ways) where
+  module _ (ways : List ℕ) {last : ℕ} (room : last < length ways) where
     put_way : Put (entry ways) (entry (set ways last v)) last v
     put_way = set_put ways room refl
 
@@ -46,6 +47,7 @@ module _ (labels : List ℕ) (v : ℕ) (within : v < length labels) (none : entr
     pub listed_new : Listed labels ways last → Listed (set labels v 1) (set ways last v) (last + 1)
     listed_new l =
         record {
+          few = omega (arith, one_fewer, l.counted);
           counted = omega (arith, one_fewer, l.counted, length-set labels v 1);
           each = λ i h. each i h (ℕ_discrete i last);
           found = λ w h. found w h (ℕ_discrete w v);

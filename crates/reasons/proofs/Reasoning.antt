@@ -1,11 +1,10 @@
 -- Why there is no route: from the source's label in a search back from the target, and from whether roads join the two.
 -- Assumes nothing.
-use mathlib.Core.Path.{◌≡◌, ◌∙◌, subst}
+use mathlib.Core.Path.{◌≡◌, subst}
 use mathlib.Core.Bool.{Bool, true, false}
 use mathlib.Core.List.{List, reverse}
 use Prim.Native.Nat.{ℕ, ◌+◌, ◌-◌, ◌<◌}
 use native.Mathlib.Omega.{arith}
-use lib.ListN.{length}
 use Rattle.battery.specs.declared.Battery.{Battery}
 use Rattle.network.specs.Files.{junctions}
 use Rattle.journeys.specs.Reasons.{Reason}
@@ -13,34 +12,17 @@ use Rattle.journeys.specs.Reasons as reasons
 use Rattle.journeys.specs.SetOff.{SetOff}
 use Rattle.refusals.specs.declared.Refusal.TheVariants.{MoreCharge, NeverEnough, NotJoined}
 use Rattle.walks.specs.Label.{Best}
+use Rattle.reading.specs.Asks.{Readable}
 use Rattle.reading.specs.Reading.{backward, net}
 use Rattle.reading.proofs.Backward.{set_off, charge_some}
 use Rattle.reading.proofs.Net.{tails_in, heads_in, count_is, walk_back, walk_forth}
 use Rattle.search.specs.declared.Trip.{Trip}
 use Rattle.search.proofs.Sizes.{junctions_fit}
 use Rattle.reasons.specs.Marks.{LeadAsks, Leads}
-use Rattle.reasons.specs.Asks.{AgainAsks, ReasonAsks}
 
--- the trip back, with full slack
-abbrev pub trip_back : Battery → Trip → Trip
-trip_back B trip = record { source = trip.target; label = B.size + 1; target = trip.source }
-
-module _ (B : Battery) (ns rs : List ℕ) (trip : Trip) (chains labels ways queue : List ℕ)
-    (a : ReasonAsks B ns rs trip chains labels ways queue) where
-  pub again_asks : AgainAsks (backward B) ns rs (trip_back B trip) chains labels ways queue
-  again_asks =
-      record {
-        sets_out = record { readable = a.readable; source_in = a.target_in; some = omega arith; label_le = omega arith };
-        target_in = a.source_in;
-        lent = a.lent;
-        no_key = a.no_key;
-      }
-
-  pub lead_asks : (t : Trip) → t.source < junctions ns → t.target < junctions ns → (chains' labels' ways' : List ℕ)
-      → length chains' ≡ length chains → length labels' ≡ length labels → length ways' ≡ length ways
-      → LeadAsks (net (backward B) rs).roads t chains' labels' ways'
-  lead_asks t s_in t_in chains' labels' ways' c l w =
-      let r = a.readable in
+module _ {B : Battery} {ns rs : List ℕ} (r : Readable B ns rs) where
+  pub lead_asks : (t : Trip) → t.source < junctions ns → t.target < junctions ns → LeadAsks (net (backward B) rs).roads t
+  lead_asks t s_in t_in =
       let n = count_is (backward B) rs in
       record {
         few_roads = omega (arith, n, r.few_roads);
@@ -48,8 +30,6 @@ module _ (B : Battery) (ns rs : List ℕ) (trip : Trip) (chains labels ways queu
         heads_in = λ k h. omega (arith, heads_in (backward B) ns rs r k (omega (arith, n)), r.few, junctions_fit);
         source_in = omega (arith, r.few, junctions_fit);
         target_in = omega (arith, r.few, junctions_fit);
-        sizes = record { long_chains = c ∙ a.lent.long; long_labels = l ∙ a.lent.sized.long_labels };
-        long_ways = w ∙ a.lent.sized.long_ways;
       }
 
 module _ (B : Battery) (rs : List ℕ) (v w : ℕ) where

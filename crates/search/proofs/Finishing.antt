@@ -5,8 +5,9 @@ use mathlib.Core.Logic.{◌⊎◌, inl, inr, ◌≢◌}
 use Prim.Native.Nat.{ℕ, ◌+◌, ◌/◌, ◌≤◌, ◌<◌}
 use native.Mathlib.Decide.{dec_lt, ℕ_discrete}
 use native.Mathlib.Omega.{arith}
-use Rattle.lists.specs.Lists.{entry, AllZero}
-use Rattle.frontier.specs.Frontier.{places, keys_from}
+use Rattle.lists.specs.Lists.{entry}
+use Rattle.frontier.specs.Frontier.{places}
+use Rattle.frontier.specs.Queues.{Empty}
 use Rattle.walks.proofs.Bounds.{closed_bounds, early_stop}
 use Rattle.walks.specs.Claims.{Front}
 use Rattle.walks.specs.Label.{Net, Laws, after, Best}
@@ -15,6 +16,7 @@ use Rattle.search.specs.Searches.{Explored}
 use Rattle.search.specs.State.{Settled, Kept, Busy, Idle}
 use Rattle.search.specs.Steps.{waiting}
 use Rattle.search.specs.Trails.{Route}
+use Rattle.search.specs.declared.Lists.{Lists}
 use Rattle.search.specs.declared.Trip.{Trip}
 use Rattle.search.proofs.Counting.{settled?, unsettled_waits}
 use Rattle.search.proofs.Tracing.{traced}
@@ -81,10 +83,10 @@ module _ {N : Net} {psi : ℕ → ℕ} (laws : Laws N psi) {n s l turns : ℕ} {
 
 -- ---- over the lists
 
-module _ {N : Net} {psi : ℕ → ℕ} {n turns : ℕ} {trip : Trip} (labels ways queue : List ℕ) (laws : Laws N psi) where
+module _ {N : Net} {psi : ℕ → ℕ} {n turns : ℕ} {trip : Trip} (l : Lists) (laws : Laws N psi) where
   -- the target was settled last
-  pub explored_target : Busy N psi n trip.source trip.label turns trip.target N.roads.count (entry labels) (entry ways) (waiting queue)
-      → Explored N n trip labels ways queue
+  pub explored_target : Busy N psi n trip.source trip.label turns trip.target N.roads.count (entry l.labels) (entry l.ways) (waiting l.queue)
+      → Explored N n trip l
   explored_target b =
       record {
         best = best b.settled.labelled;
@@ -92,14 +94,14 @@ module _ {N : Net} {psi : ℕ → ℕ} {n turns : ℕ} {trip : Trip} (labels way
         emptied = λ z. absurd (omega (arith, b.settled.labelled));
       }
     where
-      best : 0 < entry labels trip.target → (v : ℕ) → (v ≡ trip.target) ⊎ (entry labels trip.target ≡ 0)
-          → Best N trip.source trip.label v (entry labels v)
+      best : 0 < entry l.labels trip.target → (v : ℕ) → (v ≡ trip.target) ⊎ (entry l.labels trip.target ≡ 0)
+          → Best N trip.source trip.label v (entry l.labels v)
       best h v (inl q) = rw q (best_t laws b)
       best h v (inr z) = absurd (omega arith)
 
   -- no key is left
-  pub explored_all : Idle N psi n trip.source trip.label turns (entry labels) (entry ways) (waiting queue) → AllZero queue
-      → Explored N n trip labels ways queue
+  pub explored_all : Idle N psi n trip.source trip.label turns (entry l.labels) (entry l.ways) (waiting l.queue) → Empty l.queue
+      → Explored N n trip l
   explored_all i z =
-      let none : (v : ℕ) → waiting queue v ≡ 0 = λ v. ap (λ (y : ℕ). y / places) (z (keys_from + v)) in
+      let none : (v : ℕ) → waiting l.queue v ≡ 0 = λ v. ap (λ (y : ℕ). y / places) (z.none v) in
       record { best = λ v _. best_all laws i none v; route = route_all laws i none trip.target; emptied = λ _. z }

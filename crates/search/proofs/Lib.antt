@@ -19,10 +19,10 @@ mod Finishing
 pub mod Sizes
 -- keys with their places
 mod Packing
+-- an entry of the chains and the road that it tells
+pub mod Links
 -- chain: one road more
 mod Linking
--- take: an offer is taken or passed over
-mod Offering
 -- relax: one road
 mod Roads
 -- spread: the roads of one junction, along its chain
@@ -31,5 +31,5 @@ mod Spreading
 mod Exploring
 -- explore: where it begins
 mod Starting
--- seek and label_all: one search in lists that are lent
+-- seek: one search in lists that are lent
 pub mod Seeking

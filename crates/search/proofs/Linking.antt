@@ -11,20 +11,10 @@ use Rattle.lists.specs.Lists.{entry, Put}
 use Rattle.network.specs.Files.{most_roads}
 use Rattle.walks.specs.Walk.{Roads}
 use Rattle.search.specs.Sizes.{most_places, chains_size}
-use Rattle.search.specs.Chains.{last_of, previous_of, Link, Chained, ChainAsks}
+use Rattle.search.specs.Chains.{last_of, previous_of, Link, Chained}
 
-pub chained_none : (R : Roads) (chains : List ℕ) → ChainAsks R chains → Chained R 0 chains
-chained_none R chains a =
-    record {
-      long = a.long;
-      lasts = λ v h.
-          let z = a.empty v h in
-          record { low = omega arith; gap = λ j p q. absurd (omega arith); hit = λ j p. absurd (omega arith) };
-      previous = λ j h. absurd (omega arith);
-    }
-
-module _ (R : Roads) (k : ℕ) (chains : List ℕ) (c : Chained R k chains) (few : k < most_roads) (v : ℕ) (at_v : v ≡ R.tail k)
-    (within : v < most_places) where
+module _ {R : Roads} {k : ℕ} {chains : List ℕ} (c : Chained R k chains) (long : length chains ≡ chains_size) (few : k < most_roads)
+    {v : ℕ} (at_v : v ≡ R.tail k) (within : v < most_places) where
   first : List ℕ
   first = set chains (most_places + k) (entry chains v)
 
@@ -33,15 +23,11 @@ module _ (R : Roads) (k : ℕ) (chains : List ℕ) (c : Chained R k chains) (few
 
   put₁ : Put (entry chains) (entry first) (most_places + k) (entry chains v)
   unfolding first
-  put₁ = set_put chains (omega (arith, c.long)) refl
-
-  long₁ : length first ≡ chains_size
-  unfolding first
-  long₁ = length-set chains (most_places + k) (entry chains v) ∙ c.long
+  put₁ = set_put chains (omega arith) refl
 
   put₂ : Put (entry first) (entry second) v (k + 1)
-  unfolding second
-  put₂ = set_put first (omega (arith, long₁)) refl
+  unfolding first second
+  put₂ = set_put first (omega (arith, length-set chains (most_places + k) (entry chains v))) refl
 
   lasts : (w : ℕ) → w < most_places → Dec (w ≡ v) → Link R w (last_of second w) (k + 1)
   lasts w h (yes e) =
@@ -80,7 +66,6 @@ module _ (R : Roads) (k : ℕ) (chains : List ℕ) (c : Chained R k chains) (few
   unfolding first second
   chained_more =
       record {
-        long = length-set first v (k + 1) ∙ long₁;
         lasts = λ w h. lasts w h (ℕ_discrete w v);
         previous = λ j h. previous j h (ℕ_discrete j k);
       }

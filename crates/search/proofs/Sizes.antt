@@ -1,11 +1,10 @@
 -- What the laws of the search and of its users know of the sizes of its lists; but for these, any sizes would do. Assumes
 -- nothing.
-use mathlib.Core.Path.{◌≡◌, refl}
-use Prim.Native.Nat.{◌%◌, ◌≤◌}
+use Prim.Native.Nat.{◌≤◌}
 use native.Mathlib.Omega.{arith}
 use Rattle.frontier.specs.Frontier.{places}
 use Rattle.network.specs.Files.{most_junctions}
-use Rattle.search.specs.Sizes.{most_places, most_ways, queue_size}
+use Rattle.search.specs.Sizes.{most_places, most_ways}
 
 -- junctions fit the places
 pub junctions_fit : most_junctions ≤ most_places
@@ -15,9 +14,6 @@ junctions_fit = omega arith
 pub ways_fit : most_places ≤ most_ways
 ways_fit = omega arith
 
--- and the queue: a key tells its place, and the groups are whole
+-- and the queue: a key tells its place
 pub keys_fit : most_places ≤ places
 keys_fit = omega arith
-
-pub queue_whole : queue_size % 8 ≡ 0
-queue_whole = refl

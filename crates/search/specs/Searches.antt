@@ -1,14 +1,15 @@
 -- What whole searches ask and keep. No promise cites this file.
-use Rattle.std.specs.Prelude.{◌≡◌, List, ◌⊎◌, ℕ, ◌≤◌, ◌<◌, length}
+use Rattle.std.specs.Prelude.{◌≡◌, List, ◌⊎◌, ℕ, ◌≤◌, ◌<◌}
 use Rattle.lists.specs.Lists.{entry, AllZero}
+use Rattle.frontier.specs.Queues.{Empty}
 use Rattle.network.specs.Files.{junctions, road_count}
 use Rattle.walks.specs.Label.{Net, Best}
 use Rattle.reading.specs.Asks.{Readable}
 use Rattle.reading.specs.Reading.{most_label, net}
 use Rattle.reading.specs.declared.Reading.{Reading}
-use Rattle.search.specs.Sizes.{most_places, Sized, Lent}
 use Rattle.search.specs.Chains.{Unchained, Chained}
 use Rattle.search.specs.Trails.{Route}
+use Rattle.search.specs.declared.Lists.{Lists}
 use Rattle.search.specs.declared.Trip.{Trip}
 
 -- where a search sets out, and with what label
@@ -18,37 +19,26 @@ pub record SetsOut (rd : Reading) (ns rs : List ℕ) (source label : ℕ) : Type
   pub some : 0 < label
   pub label_le : label ≤ most_label rd.battery
 
-pub record ExploreAsks (rd : Reading) (ns rs chains : List ℕ) (trip : Trip) (labels ways queue : List ℕ) : Type 0 where
+-- lists in which nothing of a search stands: no road on a chain, no label, no key
+pub record Fresh (l : Lists) : Type 0 where
+  pub no_road : Unchained l.chains
+  pub no_label : AllZero l.labels
+  pub no_key : Empty l.queue
+
+pub record ExploreAsks (rd : Reading) (ns rs : List ℕ) (trip : Trip) (l : Lists) : Type 0 where
   pub sets_out : SetsOut rd ns rs trip.source trip.label
-  pub chained : Chained (net rd rs).roads (road_count rs) chains
-  pub sized : Sized labels ways queue
-  pub no_label : AllZero labels
-  pub no_key : AllZero queue
+  pub chained : Chained (net rd rs).roads (road_count rs) l.chains
+  pub no_label : AllZero l.labels
+  pub no_key : Empty l.queue
 
 -- the target's label is the best; where it has none the search was not stopped, every label is the best and nothing waits
-pub record Explored (N : Net) (n : ℕ) (trip : Trip) (labels ways queue : List ℕ) : Type 0 where
-  pub best : (v : ℕ) → (v ≡ trip.target) ⊎ (entry labels trip.target ≡ 0)
-      → Best N trip.source trip.label v (entry labels v)
-  pub route : 0 < entry labels trip.target
-      → Route N (entry ways) n trip.source trip.label trip.target (entry labels trip.target)
-  pub emptied : entry labels trip.target ≡ 0 → AllZero queue
-
--- in lists that are lent: no road on a chain, no label, no key
-pub record SeekAsks (rd : Reading) (ns rs : List ℕ) (trip : Trip) (chains labels ways queue : List ℕ) : Type 0 where
-  pub sets_out : SetsOut rd ns rs trip.source trip.label
-  pub lent : Lent chains labels ways queue
-  pub no_road : Unchained chains
-  pub no_label : AllZero labels
-  pub no_key : AllZero queue
-
--- ---- the label of every junction
-
-pub record LabelAsks (rd : Reading) (ns rs : List ℕ) (source label : ℕ) (labels : List ℕ) : Type 0 where
-  pub sets_out : SetsOut rd ns rs source label
-  pub long : length labels ≡ most_places
-  pub no_label : AllZero labels
+pub record Explored (N : Net) (n : ℕ) (trip : Trip) (l : Lists) : Type 0 where
+  pub best : (v : ℕ) → (v ≡ trip.target) ⊎ (entry l.labels trip.target ≡ 0)
+      → Best N trip.source trip.label v (entry l.labels v)
+  pub route : 0 < entry l.labels trip.target
+      → Route N (entry l.ways) n trip.source trip.label trip.target (entry l.labels trip.target)
+  pub emptied : entry l.labels trip.target ≡ 0 → Empty l.queue
 
 -- from s with the label l: every junction has its best label
 pub record Labels (N : Net) (s l : ℕ) (labels : List ℕ) : Type 0 where
-  pub long : length labels ≡ most_places
   pub best : (v : ℕ) → Best N s l v (entry labels v)

@@ -1,6 +1,5 @@
 -- How long the lists of a search are. No promise cites this file.
-use Rattle.std.specs.Prelude.{◌≡◌, List, ℕ, ◌+◌, length}
-use Rattle.frontier.specs.Frontier.{keys_from}
+use Rattle.std.specs.Prelude.{ℕ, ◌+◌}
 use Rattle.network.specs.Files.{most_junctions, most_roads}
 
 -- a place for each junction: its label, its key, the head of its chain
@@ -11,20 +10,6 @@ most_places = most_junctions
 abbrev pub most_ways : ℕ
 most_ways = most_places
 
--- the queue's tree, and a key for each place
-abbrev pub queue_size : ℕ
-queue_size = keys_from + most_places
-
 -- a head for each place, and a link for each road
 abbrev pub chains_size : ℕ
 chains_size = most_places + most_roads
-
-pub record Sized (labels ways queue : List ℕ) : Type 0 where
-  pub long_labels : length labels ≡ most_places
-  pub long_ways : length ways ≡ most_ways
-  pub long_queue : length queue ≡ queue_size
-
--- with the chains
-pub record Lent (chains labels ways queue : List ℕ) : Type 0 where
-  pub long : length chains ≡ chains_size
-  pub sized : Sized labels ways queue

@@ -1,17 +1,64 @@
 // The search for the best label of each junction. A label is an amount plus one, and 0 is none.
 #![tactic(auto)]
 
-ghost use Rattle.std.specs.Prelude.{◌≡◌, ◌+◌, ◌^◌, ◌<◌};
-ghost use Rattle.network.specs.Files.{junctions, road_count};
+ghost use Rattle.std.specs.Prelude.{◌≡◌, ◌+◌, ◌^◌, ◌<◌, cond, ltb};
+ghost use Rattle.lists.specs.Lists.{AllZero};
+ghost use Rattle.network.specs.Files.{most_roads, junctions, road_count};
 ghost use Rattle.reading.specs.Reading.{psi, net};
-ghost use Rattle.search.specs.Chains.{Chained, ChainAsks};
-ghost use Rattle.search.specs.Searches.{ExploreAsks, Explored, SeekAsks, LabelAsks, Labels};
-ghost use Rattle.search.specs.Steps.{better, packed, KeyAsks, OfferAsks, Offered, RelaxAsks, RelaxKeeps, SpreadAsks, SpreadKeeps};
+ghost use Rattle.search.specs.Chains.{linked, last_of, previous_of, Unchained, Chained, ChainAsks};
+ghost use Rattle.search.specs.Searches.{SetsOut, Fresh, ExploreAsks, Explored, Labels};
+ghost use Rattle.search.specs.Sizes.{most_places};
+ghost use Rattle.search.specs.Steps.{packed, KeyAsks, OfferAsks, Offered, RelaxAsks, RelaxKeeps, SpreadAsks, SpreadKeeps};
 
+use frontier::Queue;
 use reading::Reading;
 
+// A network and how its roads are read.
+#[derive(Clone, Copy)]
+pub struct Map<'a> {
+    pub nodes: &'a [u8],
+    pub roads: &'a [u8],
+    pub reading: Reading,
+}
+
+impl Map<'_> {
+    // How many roads there are.
+    pub fn count(self) -> usize
+        ensures { result ≡ road_count self.entry.roads.now }
+    {
+        self.roads.len() / network::ROAD_BYTES
+    }
+
+    // Where road k is entered.
+    pub fn entered(self, k: usize) -> usize
+        requires { k < road_count self.roads.now }
+        ensures { result ≡ (net self.entry.reading self.entry.roads.now).roads.tail k }
+    {
+        self.reading.entered(network::road_at(self.roads, k))
+    }
+
+    // Where road k is left.
+    pub fn left(self, k: usize) -> usize
+        requires { k < road_count self.roads.now }
+        ensures { result ≡ (net self.entry.reading self.entry.roads.now).roads.head k }
+    {
+        self.reading.left(network::road_at(self.roads, k))
+    }
+
+    // The key of junction v with this label: label and number of the junction together, and the place.
+    fn key(self, v: usize, label: u32) -> u64
+        requires { KeyAsks self.nodes.now v }
+        ensures value { result ≡ packed (label + psi self.entry.reading self.entry.nodes.now v) v }
+        ensures upper_bound { result < 2 ^ 63 }
+    {
+        let number = self.reading.psi(network::potential_at(self.nodes, v));
+        (label as u64 + number as u64) * frontier::PLACES + v as u64
+    }
+}
+
 // From where a search sets out and with what label, and the junction where it may stop. A target
-// that is no junction never stops it, and then every label is the best.
+// that is no junction never stops it, and then every label is the best: an `Option` would be taken
+// apart by every trip that has one.
 #[derive(Clone, Copy)]
 pub struct Trip {
     pub source: usize,
@@ -33,205 +80,166 @@ pub const MOST_PLACES: usize = network::MOST_JUNCTIONS;
 
 pub const MOST_WAYS: usize = MOST_PLACES;
 
-// The queue has its tree besides, the chains a link for each road.
-pub const QUEUE: usize = frontier::KEYS + MOST_PLACES;
-
+// The chains have a link for each road besides.
 pub const CHAINS: usize = MOST_PLACES + network::MOST_ROADS;
 
-// The best label of every junction, of all walks from the source with this label; 0 where none comes
-// there. The labels are all 0 at first.
-pub fn label_all(
-    nodes: &[u8],
-    roads: &[u8],
-    reading: Reading,
-    source: usize,
-    label: u32,
-    labels: &mut [u32],
-)
-    requires { LabelAsks reading nodes.now roads.now source label labels.old }
-    ensures { Labels (net reading roads.now) source label labels.new }
-{
-    let mut chains = [0u16; CHAINS];
-    let mut ways = [0u16; MOST_WAYS];
-    let mut queue = [0u64; QUEUE];
-    let trip = Trip {
-        source,
-        label,
-        target: MOST_PLACES,
-    };
-    seek(
-        nodes,
-        roads,
-        reading,
-        trip,
-        &mut chains,
-        labels,
-        &mut ways,
-        &mut queue,
-    );
+// The lists of a search: the chains of the roads, for each junction its label and its way (the road by
+// which the label came), and the queue. All searches of a query share one set.
+#[derive(Drop)]
+pub struct Lists {
+    pub chains: [u16; CHAINS],
+    pub labels: [u32; MOST_PLACES],
+    pub ways: [u16; MOST_WAYS],
+    pub queue: Queue,
 }
 
-// One search, in lists with no road on a chain, no label and no key.
-pub fn seek(
-    nodes: &[u8],
-    roads: &[u8],
-    reading: Reading,
-    trip: Trip,
-    chains: &mut [u16],
-    labels: &mut [u32],
-    ways: &mut [u16],
-    queue: &mut [u64],
-)
-    requires { SeekAsks reading nodes.now roads.now trip chains.old labels.old ways.old queue.old }
-    ensures { Explored (net reading roads.now) (junctions nodes.now) trip labels.new ways.new queue.new }
-{
-    chain(roads, reading, chains);
-    explore(nodes, roads, reading, chains, trip, labels, ways, queue);
+impl Lists {
+    // No road on a chain, no label, no key.
+    pub fn new() -> Lists
+        ensures { Fresh result }
+    {
+        Lists {
+            chains: [0; CHAINS],
+            labels: [0; MOST_PLACES],
+            ways: [0; MOST_WAYS],
+            queue: Queue::new(),
+        }
+    }
+
+    // The best label of every junction, of all walks from the source with this label; 0 where none comes
+    // there.
+    pub fn label_all(&mut self, map: Map, source: usize, label: u32)
+        requires sets_out { SetsOut map.reading map.nodes.now map.roads.now source label }
+        requires fresh { Fresh self.old }
+        ensures { Labels (net map.entry.reading map.entry.roads.now) source label self.new.labels }
+    {
+        let trip = Trip {
+            source,
+            label,
+            target: MOST_PLACES,
+        };
+        self.seek(map, trip);
+    }
+
+    // One search, in lists with no road on a chain, no label and no key.
+    pub fn seek(&mut self, map: Map, trip: Trip)
+        requires sets_out { SetsOut map.reading map.nodes.now map.roads.now trip.source trip.label }
+        requires fresh { Fresh self.old }
+        ensures { Explored (net map.entry.reading map.entry.roads.now) (junctions map.entry.nodes.now) trip self.new }
+    {
+        chain(map, &mut self.chains);
+        self.explore(map, trip);
+    }
+
+    // Takes every road off its chain and every label away.
+    pub fn clear(&mut self)
+        ensures unchained { Unchained self.new.chains }
+        ensures all_zero { AllZero self.new.labels }
+        ensures queue { self.new.queue ≡ self.old.queue }
+    {
+        self.chains[..MOST_PLACES].fill(0);
+        self.labels.fill(0);
+    }
+
+    // The last road on the chain of junction u.
+    pub fn last(&self, u: usize) -> Option<usize>
+        requires { u < most_places }
+        ensures { result ≡ linked (last_of self.now.chains u) }
+    {
+        linked(self.chains[u])
+    }
+
+    // The road before road k on its chain.
+    pub fn previous(&self, k: usize) -> Option<usize>
+        requires { k < most_roads }
+        ensures { result ≡ linked (previous_of self.now.chains k) }
+    {
+        linked(self.chains[MOST_PLACES + k])
+    }
+
+    // Settles one junction after another, the greatest key first, until the target is settled or none
+    // waits.
+    fn explore(&mut self, map: Map, trip: Trip)
+        requires { ExploreAsks map.reading map.nodes.now map.roads.now trip self.old }
+        ensures { Explored (net map.entry.reading map.entry.roads.now) (junctions map.entry.nodes.now) trip self.new }
+    {
+        let source = trip.source;
+        self.labels[source] = trip.label;
+        self.queue.raise(source, map.key(source, trip.label));
+        while let Some(u) = self.queue.pop() {
+            if u == trip.target {
+                return;
+            }
+            self.spread(map, u);
+        }
+    }
+
+    // Relaxes the roads that are entered at u, which was settled last. An iterator over them would hold
+    // the lists while labels change.
+    fn spread(&mut self, map: Map, u: usize)
+        requires { SpreadAsks map.reading map.nodes.now map.roads.now u self.old }
+        ensures { SpreadKeeps map.entry.reading map.entry.nodes.now map.entry.roads.now u self.old self.new }
+    {
+        let label = self.labels[u];
+        let mut road = self.last(u);
+        while let Some(k) = road {
+            self.relax(map, k, label);
+            road = self.previous(k);
+        }
+    }
+
+    // Offers road k's end what the road brings from this label.
+    fn relax(&mut self, map: Map, k: usize, label: u32)
+        requires { RelaxAsks map.reading map.nodes.now map.roads.now k label self.old }
+        ensures { RelaxKeeps map.entry.reading map.entry.nodes.now map.entry.roads.now k label self.old self.new }
+    {
+        let road = network::road_at(map.roads, k);
+        let v = map.reading.left(road);
+        let brings = map.reading.step(road, label);
+        let offer = Offer {
+            road: k as u16,
+            label: brings,
+            key: map.key(v, brings),
+        };
+        self.take(v, offer);
+    }
+
+    // Takes the offer to v where it betters the label. There is no branch, since which it is cannot be
+    // foretold.
+    fn take(&mut self, v: usize, offer: Offer)
+        requires { OfferAsks self.old v offer }
+        ensures { Offered self.old v offer self.new }
+    {
+        let old = self.labels[v];
+        self.labels[v] = if_better(old, offer, offer.label, old);
+        self.ways[v] = if_better(old, offer, offer.road, self.ways[v]);
+        self.queue.raise(v, if_better(old, offer, offer.key, 0));
+    }
 }
 
 // Chains the roads: for each junction the last road entered there, for each road the previous one
 // entered at the same junction, each plus one, 0 for none.
-pub fn chain(roads: &[u8], reading: Reading, chains: &mut [u16])
-    requires { ChainAsks (net reading roads.now).roads chains.old }
-    ensures { Chained (net reading roads.now).roads (road_count roads.now) chains.new }
+pub fn chain(map: Map, chains: &mut [u16; CHAINS])
+    requires { ChainAsks (net map.reading map.roads.now).roads chains.old }
+    ensures { Chained (net map.entry.reading map.entry.roads.now).roads (road_count map.entry.roads.now) chains.new }
 {
-    let count = roads.len() / network::ROAD_BYTES;
-    let mut k = 0;
-    while k < count {
-        let v = reading.entered(network::road_at(roads, k));
+    for k in 0..map.count() {
+        let v = map.entered(k);
         chains[MOST_PLACES + k] = chains[v];
         chains[v] = (k + 1) as u16;
-        k += 1;
     }
 }
 
-// Settles one junction after another, the greatest key first, until the target is settled or none
-// waits.
-fn explore(
-    nodes: &[u8],
-    roads: &[u8],
-    reading: Reading,
-    chains: &[u16],
-    trip: Trip,
-    labels: &mut [u32],
-    ways: &mut [u16],
-    queue: &mut [u64],
-)
-    requires { ExploreAsks reading nodes.now roads.now chains.now trip labels.old ways.old queue.old }
-    ensures { Explored (net reading roads.now) (junctions nodes.now) trip labels.new ways.new queue.new }
+// The road that an entry of the chains tells: the entries are numbers of 16 bits, since memory is fixed.
+fn linked(entry: u16) -> Option<usize>
+    ensures { result ≡ linked entry }
 {
-    let source = trip.source;
-    labels[source] = trip.label;
-    let first = key(nodes, reading, source, trip.label);
-    let mut top = frontier::raise(queue, 0, source, first);
-    loop {
-        if top == 0 {
-            return;
-        }
-        let u = (top % frontier::PLACES) as usize;
-        let rest = frontier::remove(queue, u);
-        if u == trip.target {
-            return;
-        }
-        top = spread(nodes, roads, reading, chains, u, labels, ways, queue, rest);
-    }
+    (entry as usize).checked_sub(1)
 }
 
-// Relaxes the roads that are entered at u, which was settled last.
-fn spread(
-    nodes: &[u8],
-    roads: &[u8],
-    reading: Reading,
-    chains: &[u16],
-    u: usize,
-    labels: &mut [u32],
-    ways: &mut [u16],
-    queue: &mut [u64],
-    top: u64,
-) -> u64
-    requires { SpreadAsks reading nodes.now roads.now chains.now u labels.old ways.old queue.old top }
-    ensures { SpreadKeeps reading nodes.now roads.now u labels.old ways.old queue.old labels.new ways.new queue.new result }
+// The first of two where the offer betters the label, the second else.
+fn if_better<T: Copy>(old: u32, offer: Offer, taken: T, passed: T) -> T
+    ensures { result ≡ cond (ltb old offer.label) taken passed }
 {
-    let label = labels[u];
-    let mut best = top;
-    let mut next = chains[u] as usize;
-    while 0 < next {
-        let k = next - 1;
-        best = relax(nodes, roads, reading, k, label, labels, ways, queue, best);
-        next = chains[MOST_PLACES + k] as usize;
-    }
-    best
-}
-
-// Offers road k's end what the road brings from this label.
-fn relax(
-    nodes: &[u8],
-    roads: &[u8],
-    reading: Reading,
-    k: usize,
-    label: u32,
-    labels: &mut [u32],
-    ways: &mut [u16],
-    queue: &mut [u64],
-    top: u64,
-) -> u64
-    requires { RelaxAsks reading nodes.now roads.now k label labels.old ways.old queue.old top }
-    ensures { RelaxKeeps reading nodes.now roads.now k label labels.old ways.old queue.old labels.new ways.new queue.new result }
-{
-    let road = network::road_at(roads, k);
-    let v = reading.left(road);
-    let brings = reading.step(road, label);
-    let offer = Offer {
-        road: k as u16,
-        label: brings,
-        key: key(nodes, reading, v, brings),
-    };
-    take(labels, ways, queue, top, v, offer)
-}
-
-// The key of junction v with this label: label and number of the junction together, and the place.
-fn key(nodes: &[u8], reading: Reading, v: usize, label: u32) -> u64
-    requires { KeyAsks nodes.now v }
-    ensures value { result ≡ packed (label + psi reading nodes.now v) v }
-    ensures upper_bound { result < 2 ^ 63 }
-{
-    let number = reading.psi(network::potential_at(nodes, v));
-    (label as u64 + number as u64) * frontier::PLACES + v as u64
-}
-
-// Takes the offer to v where it betters the label. There is no branch, since which it is cannot be
-// foretold.
-fn take(
-    labels: &mut [u32],
-    ways: &mut [u16],
-    queue: &mut [u64],
-    top: u64,
-    v: usize,
-    offer: Offer,
-) -> u64
-    requires { OfferAsks labels.old ways.old queue.old top v offer }
-    ensures { Offered labels.old ways.old queue.old v offer labels.new ways.new queue.new result }
-{
-    let old = labels[v];
-    labels[v] = better_label(old, offer);
-    ways[v] = better_way(old, offer, ways[v]);
-    frontier::raise(queue, top, v, better_key(old, offer))
-}
-
-fn better_label(old: u32, offer: Offer) -> u32
-    ensures { result ≡ better old offer.label old offer.label }
-{
-    if old < offer.label { offer.label } else { old }
-}
-
-fn better_way(old: u32, offer: Offer, way: u16) -> u16
-    ensures { result ≡ better old offer.label way offer.road }
-{
-    if old < offer.label { offer.road } else { way }
-}
-
-fn better_key(old: u32, offer: Offer) -> u64
-    ensures { result ≡ better old offer.label 0 offer.key }
-{
-    if old < offer.label { offer.key } else { 0 }
+    if old < offer.label { taken } else { passed }
 }

@@ -3,6 +3,7 @@ use mathlib.Core.Path.{◌≡◌, refl, sym, ap, ◌∙◌, subst}
 use mathlib.Core.List.{List, [], ◌∷◌, ◌++◌}
 use mathlib.Core.Logic.{◌≢◌}
 use Prim.Native.Nat.{ℕ, suc, ◌+◌, ◌-◌, ◌≤◌, ◌<◌}
+use native.Mathlib.Decide.{ℕ_discrete}
 use native.Mathlib.Omega.{arith}
 use lib.ListN.{length, set, take, drop, length-set, take-append-drop}
 use Rattle.lists.proofs.Stores.{set_take_end}
@@ -18,9 +19,6 @@ pub record Walked (R : Roads) (ways : List ℕ) (s v count : ℕ) (ks : List ℕ
   pub behind : List ℕ
   pub count_is : count ≡ length behind
   pub trail : Trail R (entry ways) (length ways) s v behind ks
-
-pub walked_none : {R : Roads} {ways : List ℕ} {s t : ℕ} {ks : List ℕ} → TrailOf R ways s t ks → Walked R ways s t 0 ks
-walked_none t = record { behind = []; count_is = refl; trail = t }
 
 pub walked_more : {R : Roads} {ways : List ℕ} {s v count : ℕ} {ks : List ℕ} → Walked R ways s v count ks → v ≢ s
     → Walked R ways s (R.tail (entry ways v)) (count + 1) ks
@@ -118,10 +116,11 @@ write_start {R} {ways} {s} {t} {count} {list} a =
       writing = subst (λ (i : ℕ). Writing R ways s t i ks list list) (sym a.count_is) (writing_none list a.trailed.trail);
     }
 
-pub write_some : {R : Roads} {ways : List ℕ} {s t v i : ℕ} {list list' : List ℕ} → WriteLoop R ways s t v i list list' → v ≢ s → 0 < i
-write_some l e =
+-- as long as there are places left, the walk has not come to the source
+pub write_on : {R : Roads} {ways : List ℕ} {s t v i : ℕ} {list list' : List ℕ} → WriteLoop R ways s t v i list list' → 0 < i → v ≢ s
+write_on l h e =
     let w = l.writing in
-    omega (arith, trail_le (further w.walked.trail e).rest, w.walked.count_is, w.low)
+    omega (arith, ap length (at_source w.walked.trail e), w.walked.count_is, w.low)
 
 pub write_next : {R : Roads} {ways : List ℕ} {s t v u i : ℕ} {list list' : List ℕ} → WriteLoop R ways s t v i list list' → v ≢ s
     → u ≡ R.tail (entry ways v) → WriteLoop R ways s t u (i - 1) list (set list' (i - 1) (entry ways v))
@@ -136,7 +135,17 @@ write_next {R} {ways} {s} {t} {v} {i = i} {list} {list'} l e p =
           (writing_more l.writing e (omega (arith, l.fits, l.writing.low)));
     }
 
-pub write_done : {R : Roads} {ways : List ℕ} {s t v i : ℕ} {list list' : List ℕ} → WriteLoop R ways s t v i list list' → v ≡ s
+-- and then it has
+write_done : {R : Roads} {ways : List ℕ} {s t v i : ℕ} {list list' : List ℕ} → WriteLoop R ways s t v i list list' → i ≡ 0 → v ≡ s
+write_done {s = s} {v = v} l z = go (ℕ_discrete v s)
+  where
+    go : Dec (v ≡ s) → v ≡ s
+    go (yes e) = e
+    go (no e) =
+        let w = l.writing.walked in
+        absurd (omega (arith, trail_le (further w.trail e).rest, w.count_is))
+
+pub written : {R : Roads} {ways : List ℕ} {s t v i : ℕ} {list list' : List ℕ} → WriteLoop R ways s t v i list list' → i ≡ 0
     → Written R ways s t list list'
-write_done {list = list} l e ks trail =
-    writing_done l.writing e ∙ ap (λ (xs : List ℕ). xs ++ drop (length xs) list) (trail_one l.whole trail)
+written {list = list} l z ks trail =
+    writing_done l.writing (write_done l z) ∙ ap (λ (xs : List ℕ). xs ++ drop (length xs) list) (trail_one l.whole trail)

@@ -1,5 +1,5 @@
 use Rattle.std.proofs.Common.{arith}
-use Rattle.frontier.proofs.Queue.{regrouped}
+use Rattle.frontier.proofs.Changes.{regrouped}
 use Rattle.frontier.proofs.regroup.Goals as goal
 
 pub returns-clause-regrouped : goal.returns-clause-regrouped

@@ -1,51 +1,46 @@
 -- The road in hand is one of the file, it is left at a junction, and a junction not yet marked has a place in the list.
-use Rattle.std.proofs.Common.{◌≡◌, ℕ, ◌-◌, ◌<◌, List, length, arith}
-use Rattle.battery.specs.declared.Road.{Road}
-use Rattle.network.specs.Files.{road_of}
-use Rattle.reading.specs.Reading.{left, net}
+use Rattle.std.proofs.Common.{◌≡◌, ℕ, suc, ◌<◌, List, arith, ap}
+use Rattle.reading.specs.Reading.{net}
 use Rattle.reading.specs.declared.Reading.{Reading}
-use Rattle.reading.proofs.Net.{count_is, head_at}
+use Rattle.reading.proofs.Net.{count_is}
+use Rattle.search.specs.Sizes.{most_places}
+use Rattle.search.specs.declared.Lists.{Lists}
 use Rattle.reasons.specs.Marks.{MarkAsks}
-use Rattle.reasons.proofs.Marking.{is_road, mark_passed, room, mark_new, MarkLoop}
+use Rattle.reasons.proofs.Marking.{is_road, next_is, mark_passed, room, mark_new, MarkLoop}
 use Rattle.reasons.proofs.mark.Goals as goal
-use Rattle.reasons.proofs.mark.Goals.{then-labels-v-eq0, else-labels-v-eq0}
+use Rattle.reasons.proofs.mark.Goals.{then-lists-v-eq0, else-lists-v-eq0}
 
-module _ (rd : Reading) (rs : List ℕ) {chains : List ℕ} {u : ℕ} {labels ways : List ℕ} {last : ℕ}
-    (a : MarkAsks (net rd rs).roads chains u labels ways last) {next : ℕ} {labels₁ ways₁ : List ℕ} {last₁ : ℕ}
-    (i : MarkLoop (net rd rs).roads u next labels ways last labels₁ ways₁ last₁) (some : 0 < next) where
-  placed : (r : Road) {v : ℕ} → r ≡ road_of rs (next - 1) → v ≡ left rd.sense r → v < length labels₁
-  placed r p q =
-      omega (arith, head_at rd rs (next - 1) r p q, a.tracked.within (next - 1) (is_road _ _ _ _ _ _ a _ _ _ _ i some), i.long_labels)
+module _ (rd : Reading) (rs : List ℕ) {u last : ℕ} {l : Lists} (a : MarkAsks (net rd rs).roads u last l) {k last₁ : ℕ} {l₁ : Lists}
+    (i : MarkLoop (net rd rs).roads u (suc k) last l last₁ l₁) where
+  placed : {v : ℕ} → v ≡ (net rd rs).roads.head k → v < most_places
+  placed e = omega (arith, a.tracked.within k (is_road a i))
 
-pub road_at-requires : goal.road_at-requires
-road_at-requires c =
-    omega (
-      arith,
-      is_road _ _ _ _ _ _ c.requires _ _ _ _ c.loop-next.invariant c.loop-next-test.true,
-      count_is c.args.reading c.args.roads.now,
-    )
+pub left-v-requires : goal.left-v-requires
+left-v-requires c =
+    omega (arith, is_road c.requires (rw c.in-Some.is at c.loop-road.invariant), count_is c.args.map.reading c.args.map.roads.now)
 
-pub bounds-labels-v : goal.bounds-labels-v
-bounds-labels-v c =
-    placed c.args.reading _ c.requires c.loop-next.invariant c.loop-next-test.true _ c.road_at.ensures c.left-v.ensures
+pub bounds-lists-v : goal.bounds-lists-v
+bounds-lists-v c =
+    placed c.args.map.reading _ c.requires (rw c.in-Some.is at c.loop-road.invariant) c.left-v.ensures
 
-pub bounds-labels-v-then-labels-v-eq0 : goal.bounds-labels-v-then-labels-v-eq0
-bounds-labels-v-then-labels-v-eq0 c =
-    placed c.args.reading _ c.requires c.loop-next.invariant c.loop-next-test.true _ c.road_at.ensures c.left-v.ensures
+pub bounds-lists-v-then-lists-v-eq0 : goal.bounds-lists-v-then-lists-v-eq0
+bounds-lists-v-then-lists-v-eq0 c =
+    placed c.args.map.reading _ c.requires (rw c.in-Some.is at c.loop-road.invariant) c.left-v.ensures
 
-pub bounds-ways-end : goal.bounds-ways-end
-bounds-ways-end c =
-    room _ _ _ _ _ _ c.requires _ _ _ _ c.loop-next.invariant c.loop-next-test.true
-    _ (head_at _ _ _ _ c.road_at.ensures c.left-v.ensures) c.if-labels-v-eq0.true
+pub bounds-lists-end : goal.bounds-lists-end
+bounds-lists-end c =
+    let i = rw c.in-Some.is at c.loop-road.invariant in
+    omega (arith, room c.requires i _ c.left-v.ensures c.if-lists-v-eq0.true, i.long_ways)
 
-pub loop-next-preserved : goal.loop-next-preserved
-loop-next-preserved c =
-    let e = head_at _ _ _ _ c.road_at.ensures c.left-v.ensures in
-    elim c.if-labels-v-eq0.branch [
-      | then-labels-v-eq0 w ↦
-          mark_new _ _ _ _ _ _ c.requires _ _ _ _ c.loop-next.invariant c.loop-next-test.true _ e w.if-labels-v-eq0.true
-          w.labels-is w.ways-is w.end-is
-      | else-labels-v-eq0 w ↦
-          mark_passed _ _ _ _ _ _ c.requires _ _ _ _ c.loop-next.invariant c.loop-next-test.true _ e w.if-labels-v-eq0.false
-          w.labels-is w.ways-is w.end-is
+pub loop-road-preserved : goal.loop-road-preserved
+loop-road-preserved c =
+    let i = rw c.in-Some.is at c.loop-road.invariant in
+    let e = c.left-v.ensures in
+    elim c.if-lists-v-eq0.branch [
+      | then-lists-v-eq0 w ↦
+          rw (next_is c.requires i (ap (λ (l : Lists). l.chains) w.lists-is) c.previous-road.ensures, w.lists-is, w.end-is)
+          (mark_new c.requires i _ e w.if-lists-v-eq0.true)
+      | else-lists-v-eq0 w ↦
+          rw (next_is c.requires i (ap (λ (l : Lists). l.chains) w.lists-is) c.previous-road.ensures, w.lists-is, w.end-is)
+          (mark_passed c.requires i _ e w.if-lists-v-eq0.false)
     ]

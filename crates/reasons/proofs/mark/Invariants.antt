@@ -1,11 +1,11 @@
--- The roads of u from `next` on are followed; next falls along the chain.
+-- The roads of u from the one in hand on are followed; it falls along the chain.
 use Rattle.reading.specs.Reading.{net}
+use Rattle.search.proofs.Links.{entry_of}
 use Rattle.reasons.proofs.Marking.{MarkLoop}
 use Rattle.reasons.proofs.mark.Given as goal
 
-abbrev pub invariant-loop-next : goal.invariant-loop-next
-invariant-loop-next l =
-    MarkLoop (net l.reading l.roads).roads l.u l.next l.initial.labels l.initial.ways l.last l.labels l.ways l.end
+abbrev pub invariant-loop-road : goal.invariant-loop-road
+invariant-loop-road l = MarkLoop (net l.map.reading l.map.roads.now).roads l.u (entry_of l.road) l.last l.initial.lists l.end l.lists
 
-abbrev pub decreases-loop-next : goal.decreases-loop-next
-decreases-loop-next l = l.next
+abbrev pub decreases-loop-road : goal.decreases-loop-road
+decreases-loop-road l = entry_of l.road

@@ -6,15 +6,13 @@ use Rattle.reasons.proofs.reason.Goals as goal
 
 pub overflow_sub-result : goal.overflow_sub-result
 overflow_sub-result c =
-    omega (arith, best_le (backward c.args.battery) c.args.roads.now _ _ _ _ (omega arith) c.seek_again-slack.ensures)
+    omega (arith, best_le (backward c.args.map.reading.battery) c.args.map.roads.now _ _ _ _ (omega arith) c.seek_again-slack.ensures)
 
 pub returns-then-slack-gt0 : goal.returns-then-slack-gt0
 returns-then-slack-gt0 c = more_charge _ _ _ _ _ c.if-slack-gt0.true c.seek_again-slack.ensures
 
 pub leads-requires : goal.leads-requires
-leads-requires c =
-    let k = c.seek_again-slack.auto in
-    lead_asks _ _ _ _ _ _ _ _ c.requires _ (omega arith) (omega arith) _ _ _ k.chains k.labels k.ways
+leads-requires c = lead_asks c.requires.readable _ (omega arith) (omega arith)
 
 pub returns-then-leads : goal.returns-then-leads
 returns-then-leads c =

@@ -1,35 +1,21 @@
--- The trail goes on from v: its way is a road, and there is a place for it before i.
+-- The trail goes on from v as long as there are places left: its way is a road.
 use Rattle.std.proofs.Common.{arith}
-use Rattle.reading.proofs.Net.{tail_at, count_is}
+use Rattle.reading.proofs.Net.{count_is}
 use Rattle.trips.proofs.Trailing.{further}
-use Rattle.trips.proofs.Writing.{write_start, write_some, write_next, write_done}
+use Rattle.trips.proofs.Writing.{write_start, write_on, write_next, written}
 use Rattle.trips.proofs.write_back.Goals as goal
 
-pub loop-v-init : goal.loop-v-init
-loop-v-init c = write_start c.requires
+pub loop-i-init : goal.loop-i-init
+loop-i-init c = write_start c.requires
 
-pub overflow_sub-i : goal.overflow_sub-i
-overflow_sub-i c = write_some c.loop-v.invariant c.loop-v-test.true
+pub entered-v-requires : goal.entered-v-requires
+entered-v-requires c =
+    let l = c.loop-i.invariant in
+    omega (arith, (further l.writing.walked.trail (write_on l (omega arith))).road, count_is c.args.map.reading c.args.map.roads.now)
 
-pub bounds-list-i : goal.bounds-list-i
-bounds-list-i c =
-    let l = c.loop-v.invariant in
-    omega (arith, write_some l c.loop-v-test.true, l.fits, l.long, l.writing.low)
-
-pub road_at-requires : goal.road_at-requires
-road_at-requires c =
-    omega (
-      arith,
-      (further c.loop-v.invariant.writing.walked.trail c.loop-v-test.true).road,
-      count_is c.args.reading c.args.roads.now,
-    )
-
-pub loop-v-smaller : goal.loop-v-smaller
-loop-v-smaller c = omega (arith, write_some c.loop-v.invariant c.loop-v-test.true)
-
-pub loop-v-preserved : goal.loop-v-preserved
-loop-v-preserved c =
-    write_next c.loop-v.invariant c.loop-v-test.true (tail_at _ _ _ _ c.road_at.ensures c.entered-v.ensures)
+pub loop-i-preserved : goal.loop-i-preserved
+loop-i-preserved c =
+    write_next c.loop-i.invariant (write_on c.loop-i.invariant (omega arith)) c.entered-v.ensures
 
 pub returns : goal.returns
-returns c = write_done c.loop-v.invariant c.loop-v-test.false
+returns c = written c.loop-i.invariant (omega arith)

@@ -3,8 +3,5 @@ use Rattle.reading.specs.Reading.{net}
 use Rattle.trips.proofs.Writing.{WriteLoop}
 use Rattle.trips.proofs.write_back.Given as goal
 
-abbrev pub invariant-loop-v : goal.invariant-loop-v
-invariant-loop-v l = WriteLoop (net l.reading l.roads).roads l.ways l.source l.initial.v l.v l.i l.initial.list l.list
-
-abbrev pub decreases-loop-v : goal.decreases-loop-v
-decreases-loop-v l = l.i
+abbrev pub invariant-loop-i : goal.invariant-loop-i
+invariant-loop-i l = WriteLoop (net l.map.reading l.map.roads.now).roads l.ways l.fn.trip.source l.initial.v l.v l.i l.initial.list l.list

@@ -1,9 +1,0 @@
--- The state of the search; each turn settles a junction.
-use Rattle.search.proofs.Exploring.{ExploreLoop, left_over}
-use Rattle.search.proofs.explore.Given as goal
-
-abbrev pub invariant-loop-top : goal.invariant-loop-top
-invariant-loop-top l = ExploreLoop l.reading l.nodes l.roads l.trip l.labels l.ways l.queue l.top
-
-abbrev pub decreases-loop-top : goal.decreases-loop-top
-decreases-loop-top l = left_over l.nodes l.labels l.queue
