@@ -64,7 +64,7 @@ fn leads(map: Map, trip: Trip, lists: &mut Lists) -> bool
 
 // Marks with the label 1 every junction that roads, so read, lead to from the source. The ways list
 // the junctions that are marked; the roads of the first ones are followed. The list grows as it is
-// read, so no `for` goes over it.
+// read, so no `for` goes over it; it has no memory of its own, so it is no `ArrayVec`.
 fn reach(map: Map, source: usize, lists: &mut Lists)
     requires { ReachAsks (net map.reading map.roads.now).roads source lists.old }
     ensures { Reaches (net map.entry.reading map.entry.roads.now).roads source lists.new.labels }
