@@ -45,6 +45,13 @@ impl Queue {
         }
     }
 
+    // Takes out every place.
+    pub fn clear(&mut self)
+        ensures { Empty self.new }
+    {
+        *self = Queue::new();
+    }
+
     // Sets the key of v to the larger of its key and this one.
     pub fn raise(&mut self, v: usize, key: u64)
         requires { Raises self.old v key }

@@ -14,7 +14,7 @@ use search::{Lists, Map, Trip};
 // Why no walk of the trip is feasible: a search back from its target for the least charge to set off
 // with; where no charge does, whether roads join the source to the target.
 pub fn reason(map: Map, trip: Trip, lists: &mut Lists) -> Refusal
-    requires { ReasonAsks map.reading.battery map.nodes.now map.roads.now trip lists.old }
+    requires { ReasonAsks map.reading.battery map.nodes.now map.roads.now trip }
     ensures { Reason map.entry.reading.battery map.entry.roads.now trip.source trip.target result }
 {
     let battery = map.reading.battery;
@@ -41,9 +41,9 @@ pub fn reason(map: Map, trip: Trip, lists: &mut Lists) -> Refusal
     }
 }
 
-// Another search, in the lists of one after which nothing waits: the best label of the target.
+// Another search, in the lists of the one before: the best label of the target.
 fn seek_again(map: Map, trip: Trip, lists: &mut Lists) -> u32
-    requires { AgainAsks map.reading map.nodes.now map.roads.now trip lists.old }
+    requires { AgainAsks map.reading map.nodes.now map.roads.now trip }
     ensures { Best (net map.entry.reading map.entry.roads.now) trip.source trip.label trip.target result }
 {
     lists.clear();

@@ -109,8 +109,7 @@ impl Lists {
     // The best label of every junction, of all walks from the source with this label; 0 where none comes
     // there.
     pub fn label_all(&mut self, map: Map, source: usize, label: u32)
-        requires sets_out { SetsOut map.reading map.nodes.now map.roads.now source label }
-        requires fresh { Fresh self.old }
+        requires { SetsOut map.reading map.nodes.now map.roads.now source label }
         ensures { Labels (net map.entry.reading map.entry.roads.now) source label self.new.labels }
     {
         let trip = Trip {
@@ -118,6 +117,7 @@ impl Lists {
             label,
             target: MOST_PLACES,
         };
+        self.clear();
         self.seek(map, trip);
     }
 
@@ -131,14 +131,13 @@ impl Lists {
         self.explore(map, trip);
     }
 
-    // Takes every road off its chain and every label away.
+    // Takes every road off its chain, every label away and every place out of the queue.
     pub fn clear(&mut self)
-        ensures unchained { Unchained self.new.chains }
-        ensures all_zero { AllZero self.new.labels }
-        ensures queue { self.new.queue ≡ self.old.queue }
+        ensures { Fresh self.new }
     {
         self.chains[..MOST_PLACES].fill(0);
         self.labels.fill(0);
+        self.queue.clear();
     }
 
     // The last road on the chain of junction u.
