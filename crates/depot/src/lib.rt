@@ -65,7 +65,8 @@ fn write_charges(battery: Battery, labels: &[u32], count: usize, list: &mut [i32
     }
 }
 
-// The charge that a label tells: the battery size less the slack, and -1 where there is no label.
+// The charge that a label tells: the battery size less the slack, and -1 where there is no label, since
+// the list is C's.
 fn charge_of(battery: Battery, label: u32) -> i32
     requires { ChargeAsks battery label }
     ensures { result ≡ charge_of battery label }

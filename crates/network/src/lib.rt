@@ -1,5 +1,6 @@
 // The two files: the junctions' potentials and the roads, read straight from the lent bytes, and
-// the check of a network.
+// the check of a network. They are lent as two slices and not as one struct: as many functions read
+// one of them alone as read both, and clauses say `nodes.now` for `network.entry.nodes.now`.
 #![tactic(auto)]
 
 ghost use Rattle.std.specs.Prelude.{◌≡◌, ◌<◌, ◌-ℤ◌, ◌+ℤ◌};

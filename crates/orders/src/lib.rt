@@ -1,5 +1,6 @@
 // The tests of a question before any road is followed: those that several entries share, and each
-// entry's own order up to the records.
+// entry's own order up to the records. The four orders are alike and stay four, since a reader holds
+// each against the paper's list; one function of a list of tests would hide it.
 #![tactic(auto)]
 
 ghost use Rattle.std.specs.Prelude.{◌≡◌};

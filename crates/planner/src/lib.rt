@@ -33,7 +33,8 @@ pub fn best_route(
     plan(nodes, roads, question, van, list)
 }
 
-// Drive of a given route: arrival and totals, or the first fault.
+// Drive of a given route: arrival and totals, or the first fault. Drive and profile differ in each of
+// their three calls, so that one function of both would only be given the three.
 pub fn drive(
     nodes: &[u8],
     roads: &[u8],

@@ -46,7 +46,8 @@ pub struct Route {
     pub end: Van,
 }
 
-// Document 01's number and values of each answer. A success has number 0 and place 0.
+// Document 01's number and values of each answer. A success has number 0 and place 0. They are C's, so
+// each answer has a struct of its own.
 #[repr(C)]
 #[derive(Clone, Copy)]
 pub struct CheckNumbers {

@@ -10,7 +10,9 @@ use battery::{Battery, Road};
 
 // In which sense roads are read: forward, from tail to head, a label being the charge that a van
 // has, plus one; or backward, from head to tail, a label being the slack, which is the battery size
-// less the charge that a van needs, plus one.
+// less the charge that a van needs, plus one. It is an enum and no trait: the search back goes on in the
+// lists of the search forward, and a type parameter would stand on every function of both and say no
+// more than the four matches here.
 #[derive(Clone, Copy)]
 pub enum Sense {
     Forward,

@@ -1,5 +1,6 @@
 // The C boundary: the five public entries under their C names. A file or a list is a pointer and a
-// length; the answers are the planner's numbers, by value. include/sedge.h declares them for C.
+// length; the answers are the planner's numbers, by value. include/sedge.h declares them for C, whose
+// parameters they have.
 #![tactic(auto)]
 
 ghost use Rattle.promises.specs.Promises.{SetsOff};
