@@ -10,7 +10,7 @@ use lib.Seq.{get_or-set_same, set-set, set-get_or}
 use Rattle.lists.proofs.Stores.{set_put}
 use Rattle.lists.specs.Lists.{entry, Put}
 use Rattle.frontier.specs.Frontier.{places, keys_from, key_at, Small, Frontier, Top}
-use Rattle.frontier.specs.Queues.{Queued, Raises, Now}
+use Rattle.frontier.specs.Queues.{Raises, Now}
 use Rattle.frontier.specs.Groups.{Run, Regrouped, Lifted}
 use Rattle.frontier.proofs.Level.{above₁, above₂, above₃, Levels, Due, run_group, greatest_raise, due_key, due_next, due_raise, due_top}
 use Rattle.frontier.proofs.Top.{top_of, top_raise}
@@ -88,11 +88,10 @@ module _ {queue one two three queue' : List ℕ} {v key x y z : ℕ} where
 
 -- ---- the two changes
 
-pub removed : {queue one two three queue' : List ℕ} {top v x y z r : ℕ} → Queued (record { entries = queue; top = top }) → v < places → keys_from + v < length queue → Regrouped queue (keys_from + v) 0 one x
+pub removed : {queue one two three queue' : List ℕ} {top v x y z r : ℕ} → Frontier queue → v < places → keys_from + v < length queue → Regrouped queue (keys_from + v) 0 one x
     → Regrouped one (above₁ v) x two y → Regrouped two (above₂ v) y three z → Regrouped three (above₃ v) z queue' r
     → Small queue' → Now (record { entries = queue; top = top }) v 0 (record { entries = queue'; top = r })
-removed {queue} {one} {two} {three} {queue'} {v = v} {x} {y} {z} {r} q b w g₁ g₂ g₃ g₄ s =
-    let f : Frontier queue = q.frontier in
+removed {queue} {one} {two} {three} {queue'} {v = v} {x} {y} {z} {r} f b w g₁ g₂ g₃ g₄ s =
     let p : Puts queue one two three queue' v 0 x y z = puts_of queue one two three w g₁.is g₂.is g₃.is g₄.is in
     let d₁ : Due (entry one) (above₁ v) x = due_next (due_key f.level (omega arith)) p.first g₁.greatest (omega arith) in
     let d₂ : Due (entry two) (above₂ v) y = due_next d₁ p.second g₂.greatest (omega arith) in

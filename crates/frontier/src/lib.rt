@@ -5,7 +5,7 @@
 
 ghost use Rattle.std.specs.Prelude.{◌≡◌, ◌+◌, ◌*◌, ◌/◌, ◌^◌, ◌≤◌, ◌<◌, max, length};
 ghost use Rattle.lists.specs.Lists.{entry};
-ghost use Rattle.frontier.specs.Frontier.{places, key_at, Small};
+ghost use Rattle.frontier.specs.Frontier.{Frontier, places, key_at, Small};
 ghost use Rattle.frontier.specs.Queues.{Queued, Empty, Raises, Now, Pops};
 ghost use Rattle.frontier.specs.Groups.{Run, Regrouped, Lifted};
 
@@ -27,7 +27,8 @@ const KEYS: usize = ONES + 64 * TOPS;
 
 const SIZE: usize = KEYS + PLACES as usize;
 
-// The tree, and the greatest key of all.
+// The tree, and the greatest key of all. The levels stand in one array, so that one law serves all. That
+// they are a tree is asked by clauses (`Queued`): as a ghost field it was tried, and is no proposition.
 #[derive(Drop)]
 pub struct Queue {
     entries: [u64; SIZE],
@@ -78,8 +79,8 @@ impl Queue {
     }
 
     // Takes v out of the queue.
-    fn remove(&mut self, v: usize)
-        requires queued { Queued self.old }
+    pub fn remove(&mut self, v: usize)
+        requires tree { Frontier self.old.entries }
         requires within { v < places }
         ensures { Now self.old v 0 self.new }
     {

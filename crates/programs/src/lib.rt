@@ -22,7 +22,8 @@ pub const NODES_ROOM: usize = network::MOST_JUNCTIONS * network::JUNCTION_BYTES 
 
 pub const ROADS_ROOM: usize = network::MOST_ROADS * network::ROAD_BYTES + 1;
 
-// How many bytes of each file were read.
+// How many bytes of each file were read. They stand beside the buffers and are no slices of them: the
+// buffer of the roads is lent whole, since the answer is written over it.
 #[derive(Clone, Copy)]
 pub struct Sizes {
     pub nodes: usize,
@@ -61,7 +62,8 @@ pub trait CabProgram<const NUMBERS: usize> {
     ghost fits: { room ≤ roads_room };
 }
 
-// Reads the line and the files, and writes what the program responds.
+// Reads the line and the files, and writes what the program responds. It promises nothing: what the
+// system reads and writes is outside every proof, and what is written is what `respond` promises.
 pub fn run<const NUMBERS: usize, P: CabProgram<NUMBERS>>(
     rt: &(impl Files + Input + Print),
     line: &mut [u8],
@@ -151,8 +153,8 @@ fn read_file(files: &impl Files, path: &str, room: &mut [u8]) -> Option<usize>
 }
 
 // Reads until the room is full or the input ends, and answers how many bytes came; a read that fails
-// is told. A loop of its own: `read_exact` tells no count at the end, and tries again what was
-// interrupted.
+// is told. A loop of its own: `read_exact` tells no count at the end, and it and `io::copy` try again
+// what was interrupted.
 pub fn read_all<R: Read>(input: &mut R, room: &mut [u8]) -> io::Result<usize>
     ensures prefix_len { IfOk result (λ n. IsPrefixLen n room.new) }
     ensures bytes { IfOk result (λ n. Consumes (R.remaining input.old) (R.remaining input.new) (take n room.new)) }

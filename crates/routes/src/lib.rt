@@ -140,7 +140,7 @@ fn enter(roads: &[u8], entry: u16, i: usize, at: usize) -> Result<(), Refusal>
     check_begin(network::road_at(roads, entry as usize), i, at)
 }
 
-// Whether the entry of place i is a road: 12.
+// Whether the entry of place i is a road: 12. It and 13 are written by returns, as 7 to 9 are.
 pub fn check_entry(roads: &[u8], entry: u16, i: usize) -> Result<(), Refusal>
     ensures { result ≡ entry_fault roads.now entry i }
 {

@@ -53,7 +53,7 @@ fn run(rt: &impl Print, text: &[u8]) -> io::Result<()> {
     Ok(())
 }
 
-// A line that is not in the notation; 0 stands for those that there is no room for.
+// A line that is not in the notation; 0 stands for those that there is no room for, and is printed so.
 fn bad_row(rt: &impl Print, number: u64) -> io::Result<()> {
     println!(rt; "bad row {number}")
 }

@@ -109,7 +109,7 @@ fn read_entries<T: From<u16> + Default + Drop>(mut line: Cursor<'_>) -> Option<E
     Some(list)
 }
 
-// Each entry's answer, as numbers.
+// Each entry's answer, as numbers: each names the fields of its own.
 fn check(rt: &impl Print, network: &Network) -> io::Result<()> {
     print_checked(rt, planner::check(&network.junctions, &network.roads))
 }

@@ -85,7 +85,8 @@ pub const CHAINS: usize = MOST_PLACES + network::MOST_ROADS;
 
 // The lists of a search: the chains of the roads, for each junction its label and its way (the road by
 // which the label came), and the queue. All searches of a query share one set. A label of 0 is none, as
-// in the queue and the chains: memory is fixed, and an `Option` takes twice the room.
+// in the queue and the chains: memory is fixed, and an `Option` takes twice the room. Labels and ways are
+// apart, since together they take a third more, and the chains are links by number, since there is no heap.
 #[derive(Drop)]
 pub struct Lists {
     pub chains: [u16; CHAINS],

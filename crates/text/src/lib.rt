@@ -1,5 +1,5 @@
 // The answers as text, into a lent buffer that suffices. Each function answers how many bytes at the
-// buffer's start are the text. Writing it out is the programs' own.
+// buffer's start are the text: the buffer is the programs' own, who write it out.
 #![tactic(auto)]
 
 ghost use Rattle.std.specs.Prelude.{List, ℕ, ◌+◌, ◌*◌, ◌≤◌, length};
