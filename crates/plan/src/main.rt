@@ -9,7 +9,7 @@ ghost use Rattle.text.specs.Answer.{most_route};
 ghost use Rattle.text.specs.Room.{route_room};
 ghost use Rattle.plan.specs.Response.{question, plan_program};
 
-use programs::{CabProgram, MOST_NUMBER};
+use programs::{CabProgram, MOST_NUMBER, NODES_ROOM, ROADS_ROOM};
 use promises::{PlanNumbers, PlanQuestion};
 use std::io;
 use text::MOST_ROUTE;
@@ -17,9 +17,16 @@ use text::MOST_ROUTE;
 // The numbers of the line: battery, start, source, target.
 const NUMBERS: usize = 4;
 
+// The other program's `main` is alike: nothing can be promised of what the system reads and writes, and
+// a function of both would be public and promise nothing.
 fn main(rt: HostRuntime) -> io::Result<()> {
     let mut line = [0u8; NUMBERS * MOST_NUMBER];
-    programs::run::<NUMBERS, Plan>(&rt, &mut line)
+    let mut nodes = [0u8; NODES_ROOM];
+    let mut roads = [0u8; ROADS_ROOM];
+    let read = programs::read_inputs(&rt, &mut line, &mut nodes, &mut roads);
+    let n = read.line;
+    let count = programs::respond::<NUMBERS, Plan>(&line[..n], read.files, &nodes, &mut roads);
+    rt.write_all(&roads[..count])
 }
 
 // The best route, or why there is none.
@@ -33,8 +40,6 @@ impl CabProgram<NUMBERS> for Plan {
     ghost counts = { Prim.search rules };
 
     ghost few = { Prim.search rules };
-
-    ghost fits = { Prim.search rules };
 
     fn answer(numbers: &[u64; NUMBERS], nodes: &[u8], roads: &mut [u8], size: usize) -> usize {
         let mut list = [0u16; MOST_ROUTE];

@@ -6,10 +6,6 @@ use Rattle.programs.specs.Program.{Program}
 use Rattle.programs.specs.declared.Inputs.{Inputs}
 use Rattle.programs.specs.declared.Sizes.{Sizes}
 
--- the buffer of the roads has so many bytes: a full file and one more
-abbrev pub roads_room : ℕ
-roads_room = 65537
-
 -- as much of each file's buffer is filled as was read
 pub record Filled (nodes roads : List ℕ) (s : Sizes) : Type 0 where
   pub nodes_count : IsPrefixLen s.nodes nodes

@@ -7,7 +7,7 @@ ghost use Rattle.std.specs.Io.KnownBytes.{Consumes, IsAtEnd};
 ghost use Rattle.io.specs.Counts.{IsPrefixLen};
 ghost use Rattle.digits.specs.Puts.{Written};
 ghost use Rattle.programs.specs.Program.{Program, Responds, bytes_read, bad_query};
-ghost use Rattle.programs.specs.Shared.{Reads, Filled, Small, Lent, Answers, roads_room};
+ghost use Rattle.programs.specs.Shared.{Reads, Filled, Small, Lent, Answers};
 
 use digits::Text;
 use std::io::Read;
@@ -57,23 +57,6 @@ pub trait CabProgram<const NUMBERS: usize> {
     ghost counts: { program.count ≡ NUMBERS };
 
     ghost few: { NUMBERS ≤ 10 };
-
-    // The buffer of the roads has the room.
-    ghost fits: { room ≤ roads_room };
-}
-
-// Reads the line and the files, and writes what the program responds. It promises nothing: what the
-// system reads and writes is outside every proof, and what is written is what `respond` promises.
-pub fn run<const NUMBERS: usize, P: CabProgram<NUMBERS>>(
-    rt: &(impl Files + Input + Print),
-    line: &mut [u8],
-) -> io::Result<()> {
-    let mut nodes = [0u8; NODES_ROOM];
-    let mut roads = [0u8; ROADS_ROOM];
-    let read = read_inputs(rt, line, &mut nodes, &mut roads);
-    let n = read.line;
-    let count = respond::<NUMBERS, P>(&line[..n], read.files, &nodes, &mut roads);
-    rt.write_all(&roads[..count])
 }
 
 // What is written: how many bytes at the start of `roads`, of which as many as `files` says are the

@@ -10,16 +10,23 @@ ghost use Rattle.programs.specs.Shared.{Small};
 ghost use Rattle.text.specs.Room.{charges_room};
 ghost use Rattle.setoff.specs.Response.{question, set_off_program};
 
-use programs::{CabProgram, MOST_NUMBER};
+use programs::{CabProgram, MOST_NUMBER, NODES_ROOM, ROADS_ROOM};
 use promises::{CheckNumbers, SetOffQuestion};
 use std::io;
 
 // The numbers of the line: battery, depot.
 const NUMBERS: usize = 2;
 
+// The other program's `main` is alike: nothing can be promised of what the system reads and writes, and
+// a function of both would be public and promise nothing.
 fn main(rt: HostRuntime) -> io::Result<()> {
     let mut line = [0u8; NUMBERS * MOST_NUMBER];
-    programs::run::<NUMBERS, SetOff>(&rt, &mut line)
+    let mut nodes = [0u8; NODES_ROOM];
+    let mut roads = [0u8; ROADS_ROOM];
+    let read = programs::read_inputs(&rt, &mut line, &mut nodes, &mut roads);
+    let n = read.line;
+    let count = programs::respond::<NUMBERS, SetOff>(&line[..n], read.files, &nodes, &mut roads);
+    rt.write_all(&roads[..count])
 }
 
 // The charge to set off with from each junction.
@@ -33,8 +40,6 @@ impl CabProgram<NUMBERS> for SetOff {
     ghost counts = { Prim.search rules };
 
     ghost few = { Prim.search rules };
-
-    ghost fits = { Prim.search rules };
 
     fn answer(numbers: &[u64; NUMBERS], nodes: &[u8], roads: &mut [u8], size: usize) -> usize {
         let mut list = [0i32; network::MOST_JUNCTIONS];
