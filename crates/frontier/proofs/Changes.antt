@@ -117,16 +117,13 @@ raised {queue} {one} {two} {three} {queue'} {top} {v} {key} {r} m w e₁ e₂ e�
     f : Frontier queue
     f = m.queued.frontier
 
-    best : Top queue top
-    best = m.queued.best
-
     same : key ≡ 0 → queue' ≡ queue
     same n = lifted_none three _ key n e₄ ∙ lifted_none two _ key n e₃ ∙ lifted_none one _ key n e₂ ∙ lifted_none queue _ key n e₁
 
     go : Dec (key ≡ 0) → Now (record { entries = queue; top = top }) v (max (key_at queue v) key) (record { entries = queue'; top = r })
     go (yes n) =
         let put : Put (key_at queue) (key_at queue) v (max (key_at queue v) key) = record { here = omega arith; rest = λ i _. refl } in
-        rw (same n, e) (record { put = put; queued = record { frontier = f; best = top_raise key best put m.tells } })
+        rw (same n, e) (record { put = put; queued = record { frontier = f; best = top_raise key m.queued.best put m.tells } })
     go (no n) =
         let b : v < places = m.within in
         let p = puts_of queue one two three w e₁ e₂ e₃ e₄ in
@@ -139,7 +136,7 @@ raised {queue} {one} {two} {three} {queue'} {top} {v} {key} {r} m w e₁ e₂ e�
           queued =
               record {
                 frontier = puts_frontier p f b tells s (due_top d₃ p.fourth (omega arith));
-                best = rw e (top_raise key best put m.tells);
+                best = rw e (top_raise key m.queued.best put m.tells);
               };
         }
       where

@@ -1,5 +1,5 @@
 -- What a program may write, as bytes. `bad query` comes first, then `no file`, then what its own promise allows.
-use Rattle.std.specs.Prelude.{◌≡◌, Bool, true, false, List, [], ◌∷◌, ℕ, length, take, Option, None, Some}
+use Rattle.std.specs.Prelude.{◌≡◌, Bool, true, false, List, [], ◌∷◌, ℕ, length, take, is_some, Option, None, Some}
 use Rattle.digits.specs.Line.{space, newline, Line}
 use Rattle.programs.specs.declared.Sizes.{Sizes}
 
@@ -28,3 +28,8 @@ pub data Responds (P : Program) (line : List ℕ) (files : Bool) (ns rs : List �
 abbrev pub bytes_read : (Sizes → ℕ) → Option Sizes → List ℕ → List ℕ
 bytes_read size None buffer = []
 bytes_read size (Some s) buffer = take (size s) buffer
+
+-- what it writes where the line and, in their buffers, the two files were read
+abbrev pub RespondsRead : Program → List ℕ → Option Sizes → List ℕ → List ℕ → List ℕ → Type 0
+RespondsRead P line files nodes roads text =
+    Responds P line (is_some files) (bytes_read (λ s. s.nodes) files nodes) (bytes_read (λ s. s.roads) files roads) text

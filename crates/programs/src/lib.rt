@@ -2,11 +2,11 @@
 // current folder, and write `bad query`, `no file` or what the library answers.
 #![tactic(auto)]
 
-ghost use Rattle.std.specs.Prelude.{◌≡◌, ◌<◌, ◌≤◌, ℕ, IfOk, IfSome, is_some, length, take};
+ghost use Rattle.std.specs.Prelude.{◌≡◌, ◌<◌, ◌≤◌, ℕ, IfOk, IfSome, length, take};
 ghost use Rattle.std.specs.Io.KnownBytes.{Consumes, IsAtEnd};
 ghost use Rattle.io.specs.Counts.{IsPrefixLen};
 ghost use Rattle.digits.specs.Puts.{Written};
-ghost use Rattle.programs.specs.Program.{Program, Responds, bytes_read, bad_query};
+ghost use Rattle.programs.specs.Program.{Program, RespondsRead, bad_query};
 ghost use Rattle.programs.specs.Shared.{Reads, Filled, Small, Lent, Answers};
 
 use digits::Text;
@@ -71,7 +71,7 @@ pub fn respond<const NUMBERS: usize, P: CabProgram<NUMBERS>>(
     requires room { P.room ≤ length roads.old }
     requires filled { IfSome files (Filled nodes.now roads.old) }
     ensures prefix_len { IsPrefixLen result roads.new }
-    ensures responds { Responds P.program line.now (is_some files) (bytes_read (λ s. s.nodes) files nodes.now) (bytes_read (λ s. s.roads) files roads.old) (take result roads.new) }
+    ensures responds { RespondsRead P.program line.now files nodes.now roads.old (take result roads.new) }
 {
     let Some(numbers) = digits::read_numbers(line) else {
         return write_word(roads, b"bad query\n");

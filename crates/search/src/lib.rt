@@ -2,10 +2,9 @@
 #![tactic(auto)]
 
 ghost use Rattle.std.specs.Prelude.{◌≡◌, ◌+◌, ◌^◌, ◌<◌, cond, ltb};
-ghost use Rattle.lists.specs.Lists.{AllZero};
 ghost use Rattle.network.specs.Files.{most_roads, junctions, road_count};
 ghost use Rattle.reading.specs.Reading.{psi, net};
-ghost use Rattle.search.specs.Chains.{linked, last_of, previous_of, Unchained, Chained, ChainAsks};
+ghost use Rattle.search.specs.Chains.{linked, last_of, previous_of, Chained, ChainAsks};
 ghost use Rattle.search.specs.Searches.{SetsOut, Fresh, ExploreAsks, Explored, Labels};
 ghost use Rattle.search.specs.Sizes.{most_places};
 ghost use Rattle.search.specs.Steps.{packed, KeyAsks, OfferAsks, Offered, RelaxAsks, RelaxKeeps, SpreadAsks, SpreadKeeps};
