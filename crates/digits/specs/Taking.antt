@@ -1,5 +1,5 @@
 -- What the reader's functions ask and keep. No promise cites it.
-use Rattle.std.specs.Prelude.{◌≡◌, List, ◌∷◌, ◌++◌, ◌⊎◌, ℕ, ◌≤◌, length, take, get_or}
+use Rattle.std.specs.Prelude.{◌≡◌, Bool, true, false, List, ◌∷◌, ◌++◌, ◌⊎◌, ℕ, ◌≤◌, length, take, get_or}
 use Rattle.digits.specs.Digits.{AllDigits, spelled}
 use Rattle.digits.specs.Line.{Number, Line}
 
@@ -32,3 +32,8 @@ NoNumber s e = (n : ℕ) (rest : List ℕ) → Takes s e n rest → ⊥
 -- .. with no line of so many numbers
 abbrev pub NoLine : List ℕ → ℕ → Type 0
 NoLine s count = (ns : List ℕ) → length ns ≡ count → Line ns s → ⊥
+
+-- whether they begin with a line of so many numbers, which are given
+pub record ReadsNumbers (s : List ℕ) (count : ℕ) (r : Bool) (ns : List ℕ) : Type 0 where
+  pub yes : r ≡ true → Line ns s
+  pub no : r ≡ false → NoLine s count

@@ -7,27 +7,37 @@ ghost use lib.ListN;
 ghost use lib.ListN.{length};
 ghost use Rattle.digits.specs.Decimal.{decimal, number_line, word_line, signed_line};
 ghost use Rattle.digits.specs.Line.{Line};
-ghost use Rattle.digits.specs.Taking.{NoDigit, Ran, Takes, NoNumber, NoLine};
+ghost use Rattle.digits.specs.Taking.{NoDigit, Ran, Takes, NoNumber, NoLine, ReadsNumbers};
 ghost use Rattle.digits.specs.Puts.{IsEmpty, HasRoom, Puts, PutsFew};
 
 // The most digits of a number that is read.
 pub const MOST_DIGITS: usize = 10;
 
-// The numbers of the line with which the bytes begin, if they do: each of one to ten decimal digits
-// (leading zeros allowed), one space between and a newline after. What follows the line does not
-// matter, and no line is one of no numbers.
-pub fn read_numbers<const COUNT: usize>(line: &[u8]) -> Option<[u64; COUNT]>
-    ensures { MatchOption result (NoLine line.now COUNT) (λ ns. (length ns ≡ COUNT) × Line ns line.now) }
+// Whether the bytes begin with a line of as many numbers as the list has entries: each of one to ten
+// decimal digits (leading zeros allowed), one space between and a newline after. Then the list holds
+// them. What follows the line does not matter, and no line is one of no numbers.
+pub fn read_numbers(line: &[u8], list: &mut [u64]) -> bool
+    ensures { ReadsNumbers line.now (length list.old) result list.new }
 {
-    let mut numbers = [0; COUNT];
+    let count = list.len();
     let mut rest = line;
-    for (i, x) in numbers.iter_mut().enumerate() {
-        let end = if i + 1 < COUNT { b' ' } else { b'\n' };
-        let (number, after) = take_number(rest, end)?;
+    for (i, x) in list.iter_mut().enumerate() {
+        let end = if i + 1 < count { b' ' } else { b'\n' };
+        let Some((number, after)) = take_number(rest, end) else {
+            return false;
+        };
         *x = number;
         rest = after;
     }
-    if 0 < COUNT { Some(numbers) } else { None }
+    0 < count
+}
+
+// The numbers of such a line as an array, if the bytes begin with one.
+pub fn read_array<const COUNT: usize>(line: &[u8]) -> Option<[u64; COUNT]>
+    ensures { MatchOption result (NoLine line.now COUNT) (λ ns. (length ns ≡ COUNT) × Line ns line.now) }
+{
+    let mut numbers = [0; COUNT];
+    read_numbers(line, &mut numbers).then_some(numbers)
 }
 
 // The number at the bytes' start, which the byte `end` must follow, and what follows that byte.

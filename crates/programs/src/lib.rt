@@ -73,7 +73,7 @@ pub fn respond<const NUMBERS: usize, P: CabProgram<NUMBERS>>(
     ensures prefix_len { IsPrefixLen result roads.new }
     ensures responds { RespondsRead P.program line.now files nodes.now roads.old (take result roads.new) }
 {
-    let Some(numbers) = digits::read_numbers(line) else {
+    let Some(numbers) = digits::read_array(line) else {
         return write_word(roads, b"bad query\n");
     };
     let Some(sizes) = files else {

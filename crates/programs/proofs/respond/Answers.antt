@@ -4,8 +4,8 @@ use Rattle.digits.proofs.Lines.{line_small}
 use Rattle.programs.proofs.Responses.{responds_bad, responds_none, responds_answered}
 use Rattle.programs.proofs.respond.Goals as goal
 
-pub read_numbers-requires : goal.read_numbers-requires
-read_numbers-requires g c = omega (arith, g.met.P.CabProgram.few)
+pub read_array-requires : goal.read_array-requires
+read_array-requires g c = omega (arith, g.met.P.CabProgram.few)
 
 pub returns-in_default-clause-responds : goal.returns-in_default-clause-responds
 returns-in_default-clause-responds g c =
