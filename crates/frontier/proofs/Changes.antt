@@ -9,8 +9,7 @@ use lib.ListN.{length, set, length-set}
 use lib.Seq.{get_or-set_same, set-set, set-get_or}
 use Rattle.lists.proofs.Stores.{set_put}
 use Rattle.lists.specs.Lists.{entry, Put}
-use Rattle.frontier.specs.Frontier.{places, keys_from, key_at, Small, Frontier, Top}
-use Rattle.frontier.specs.Queues.{Raises, Now}
+use Rattle.frontier.specs.Frontier.{places, keys_from, key_at, Small, Frontier, Raises, Removes, Now}
 use Rattle.frontier.specs.Groups.{Run, Regrouped, Lifted}
 use Rattle.frontier.proofs.Level.{above₁, above₂, above₃, Levels, Due, run_group, greatest_raise, due_key, due_next, due_raise, due_top}
 use Rattle.frontier.proofs.Top.{top_of, top_raise}
@@ -88,17 +87,19 @@ module _ {queue one two three queue' : List ℕ} {v key x y z : ℕ} where
 
 -- ---- the two changes
 
-pub removed : {queue one two three queue' : List ℕ} {top v x y z r : ℕ} → Frontier queue → v < places → keys_from + v < length queue → Regrouped queue (keys_from + v) 0 one x
+pub removed : {queue one two three queue' : List ℕ} {v x y z r : ℕ} → Removes queue v → Regrouped queue (keys_from + v) 0 one x
     → Regrouped one (above₁ v) x two y → Regrouped two (above₂ v) y three z → Regrouped three (above₃ v) z queue' r
-    → Small queue' → Now (record { entries = queue; top = top }) v 0 (record { entries = queue'; top = r })
-removed {queue} {one} {two} {three} {queue'} {v = v} {x} {y} {z} {r} f b w g₁ g₂ g₃ g₄ s =
-    let p : Puts queue one two three queue' v 0 x y z = puts_of queue one two three w g₁.is g₂.is g₃.is g₄.is in
+    → Small queue' → Now queue v 0 queue' r
+removed {queue} {one} {two} {three} {queue'} {v} {x} {y} {z} {r} m g₁ g₂ g₃ g₄ s =
+    let f : Frontier queue = m.frontier in
+    let b : v < places = m.placed in
+    let p : Puts queue one two three queue' v 0 x y z = puts_of queue one two three m.within g₁.is g₂.is g₃.is g₄.is in
     let d₁ : Due (entry one) (above₁ v) x = due_next (due_key f.level (omega arith)) p.first g₁.greatest (omega arith) in
     let d₂ : Due (entry two) (above₂ v) y = due_next d₁ p.second g₂.greatest (omega arith) in
     let d₃ : Due (entry three) (above₃ v) z = due_next d₂ p.third g₃.greatest (omega arith) in
     let f' : Frontier queue' = puts_frontier p f b (λ h. absurd (omega arith)) s (due_top d₃ p.fourth (omega arith)) in
     let h : above₃ v / 8 ≡ 0 = omega arith in
-    record { put = puts_key p b; queued = record { frontier = f'; best = top_of f' (rw h at g₄.greatest) } }
+    record { put = puts_key p b; long = p.long; frontier = f'; best = top_of f' (rw h at g₄.greatest) }
 
 -- the larger of entry i and key is due at i
 abbrev Rising : List ℕ → ℕ → ℕ → Type 0
@@ -108,36 +109,33 @@ Rising queue i key = Due (entry queue) i (max (entry queue i) key)
 lifted_none : (queue : List ℕ) {queue' : List ℕ} (i key : ℕ) → key ≡ 0 → Lifted queue i key queue' → queue' ≡ queue
 lifted_none queue i key z e = let s : max (entry queue i) key ≡ entry queue i = omega arith in e ∙ ap (set queue i) s ∙ set-get_or queue i 0
 
-pub raised : {queue one two three queue' : List ℕ} {top v key r : ℕ} → Raises (record { entries = queue; top = top }) v key → keys_from + v < length queue → Lifted queue (keys_from + v) key one
+pub raised : {queue one two three queue' : List ℕ} {top v key r : ℕ} → Raises queue top v key → Lifted queue (keys_from + v) key one
     → Lifted one (above₁ v) key two → Lifted two (above₂ v) key three → Lifted three (above₃ v) key queue'
-    → Small queue' → r ≡ max top key
-    → Now (record { entries = queue; top = top }) v (max (key_at queue v) key) (record { entries = queue'; top = r })
-raised {queue} {one} {two} {three} {queue'} {top} {v} {key} {r} m w e₁ e₂ e₃ e₄ s e = go (ℕ_discrete key 0)
+    → Small queue' → r ≡ max top key → Now queue v (max (key_at queue v) key) queue' r
+raised {queue} {one} {two} {three} {queue'} {top} {v} {key} {r} m e₁ e₂ e₃ e₄ s e = go (ℕ_discrete key 0)
   where
     f : Frontier queue
-    f = m.queued.frontier
+    f = m.frontier
 
     same : key ≡ 0 → queue' ≡ queue
     same n = lifted_none three _ key n e₄ ∙ lifted_none two _ key n e₃ ∙ lifted_none one _ key n e₂ ∙ lifted_none queue _ key n e₁
 
-    go : Dec (key ≡ 0) → Now (record { entries = queue; top = top }) v (max (key_at queue v) key) (record { entries = queue'; top = r })
+    go : Dec (key ≡ 0) → Now queue v (max (key_at queue v) key) queue' r
     go (yes n) =
         let put : Put (key_at queue) (key_at queue) v (max (key_at queue v) key) = record { here = omega arith; rest = λ i _. refl } in
-        rw (same n, e) (record { put = put; queued = record { frontier = f; best = top_raise key m.queued.best put m.tells } })
+        rw (same n, e) (record { put = put; long = refl; frontier = f; best = top_raise key m.best put m.tells })
     go (no n) =
-        let b : v < places = m.within in
-        let p = puts_of queue one two three w e₁ e₂ e₃ e₄ in
+        let b : v < places = omega (arith, m.tells (omega arith)) in
+        let p = puts_of queue one two three m.within e₁ e₂ e₃ e₄ in
         let d₁ : Rising one (above₁ v) key = due_raise key (due_key f.level (omega arith)) p.first (omega arith) (omega arith) (omega arith) in
         let d₂ : Rising two (above₂ v) key = due_raise key d₁ p.second (omega arith) (omega arith) (omega arith) in
         let d₃ : Rising three (above₃ v) key = due_raise key d₂ p.third (omega arith) (omega arith) (omega arith) in
         let put : Put (key_at queue) (key_at queue') v (max (key_at queue v) key) = puts_key p b in
         record {
           put = put;
-          queued =
-              record {
-                frontier = puts_frontier p f b tells s (due_top d₃ p.fourth (omega arith));
-                best = rw e (top_raise key m.queued.best put m.tells);
-              };
+          long = p.long;
+          frontier = puts_frontier p f b tells s (due_top d₃ p.fourth (omega arith));
+          best = rw e (top_raise key m.best put m.tells);
         }
       where
         tells : 0 < max (key_at queue v) key → max (key_at queue v) key % places ≡ v

@@ -1,7 +1,7 @@
 -- The queue of a search, as a tree in one list: for three levels each entry is the greatest of a group of eight, and then come the
 -- keys. It may have any whole number of groups; past the end every entry is 0. No entry's promise cites this file.
 use Rattle.std.specs.Prelude.{◌≡◌, List, ◌⊎◌, ℕ, ◌+◌, ◌*◌, ◌-◌, ◌/◌, ◌%◌, ◌^◌, ◌≤◌, ◌<◌, length}
-use Rattle.lists.specs.Lists.{entry}
+use Rattle.lists.specs.Lists.{entry, Put}
 
 -- how many entries stand at the top, at the end of the first group: one for 512 places
 abbrev pub tops : ℕ
@@ -51,3 +51,24 @@ pub record Frontier (queue : List ℕ) : Type 0 where
 pub record Top (queue : List ℕ) (top : ℕ) : Type 0 where
   pub most : (v : ℕ) → key_at queue v ≤ top
   pub is : (top ≡ 0) ⊎ (key_at queue (top % places) ≡ top)
+
+-- the place v may get this key, where top is the greatest
+pub record Raises (queue : List ℕ) (top v key : ℕ) : Type 0 where
+  pub frontier : Frontier queue
+  pub best : Top queue top
+  pub within : keys_from + v < length queue
+  pub key_small : key < 2 ^ 63
+  pub tells : 0 < key → key % places ≡ v
+
+-- the place v may be taken out
+pub record Removes (queue : List ℕ) (v : ℕ) : Type 0 where
+  pub frontier : Frontier queue
+  pub within : keys_from + v < length queue
+  pub placed : v < places
+
+-- queue' is the queue with this key at v; r is its greatest key
+pub record Now (queue : List ℕ) (v key : ℕ) (queue' : List ℕ) (r : ℕ) : Type 0 where
+  pub put : Put (key_at queue) (key_at queue') v key
+  pub long : length queue' ≡ length queue
+  pub frontier : Frontier queue'
+  pub best : Top queue' r

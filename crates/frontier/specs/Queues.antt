@@ -1,7 +1,7 @@
--- What the queue's functions ask and keep. No entry's promise cites this file.
+-- What the queue's methods ask and keep. No entry's promise cites this file.
 use Rattle.std.specs.Prelude.{◌≡◌, ℕ, ◌%◌, ◌^◌, ◌≤◌, ◌<◌, Option, Some, None}
-use Rattle.lists.specs.Lists.{Put}
 use Rattle.frontier.specs.Frontier.{places, key_at, Frontier, Top}
+use Rattle.frontier.specs.Frontier as tree
 use Rattle.frontier.specs.declared.Queue.{Queue}
 
 -- a queue with its greatest key
@@ -22,9 +22,8 @@ pub record Raises (q : Queue) (v key : ℕ) : Type 0 where
   pub tells : 0 < key → key % places ≡ v
 
 -- q' is the queue with this key at v
-pub record Now (q : Queue) (v key : ℕ) (q' : Queue) : Type 0 where
-  pub put : Put (key_at q.entries) (key_at q'.entries) v key
-  pub queued : Queued q'
+abbrev pub Now : Queue → ℕ → ℕ → Queue → Type 0
+Now q v key q' = tree.Now q.entries v key q'.entries q'.top
 
 -- v had the greatest key, and is taken out
 pub record Popped (q : Queue) (v : ℕ) (q' : Queue) : Type 0 where

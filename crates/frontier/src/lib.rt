@@ -5,8 +5,9 @@
 
 ghost use Rattle.std.specs.Prelude.{◌≡◌, ◌+◌, ◌*◌, ◌/◌, ◌^◌, ◌≤◌, ◌<◌, max, length};
 ghost use Rattle.lists.specs.Lists.{entry};
-ghost use Rattle.frontier.specs.Frontier.{Frontier, places, key_at, Small};
-ghost use Rattle.frontier.specs.Queues.{Queued, Empty, Raises, Now, Pops};
+ghost use Rattle.frontier.specs.Frontier.{Frontier, places, key_at, Small, Raises, Removes, Now};
+ghost use Rattle.frontier.specs.Queues;
+ghost use Rattle.frontier.specs.Queues.{Queued, Empty, Pops};
 ghost use Rattle.frontier.specs.Groups.{Run, Regrouped, Lifted};
 
 // How many entries stand at the top, one for 512 places.
@@ -23,7 +24,7 @@ const TWOS: usize = 8;
 
 const ONES: usize = TWOS + 8 * TOPS;
 
-const KEYS: usize = ONES + 64 * TOPS;
+pub const KEYS: usize = ONES + 64 * TOPS;
 
 const SIZE: usize = KEYS + PLACES as usize;
 
@@ -55,14 +56,10 @@ impl Queue {
 
     // Sets the key of v to the larger of its key and this one.
     pub fn raise(&mut self, v: usize, key: u64)
-        requires { Raises self.old v key }
-        ensures { Now self.old v (max (key_at self.old.entries v) key) self.new }
+        requires { Queues.Raises self.old v key }
+        ensures { Queues.Now self.old v (max (key_at self.old.entries v) key) self.new }
     {
-        lift(&mut self.entries, KEYS + v, key);
-        lift(&mut self.entries, ONES + v / 8, key);
-        lift(&mut self.entries, TWOS + v / 8 / 8, key);
-        lift(&mut self.entries, THREES + v / 8 / 8 / 8, key);
-        self.top = larger(self.top, key);
+        self.top = raise(&mut self.entries, self.top, v, key);
     }
 
     // Takes out the place with the greatest key, if one waits.
@@ -82,13 +79,34 @@ impl Queue {
     pub fn remove(&mut self, v: usize)
         requires tree { Frontier self.old.entries }
         requires within { v < places }
-        ensures { Now self.old v 0 self.new }
+        ensures { Queues.Now self.old v 0 self.new }
     {
-        let one = regroup(&mut self.entries, KEYS + v, 0);
-        let two = regroup(&mut self.entries, ONES + v / 8, one);
-        let three = regroup(&mut self.entries, TWOS + v / 8 / 8, two);
-        self.top = regroup(&mut self.entries, THREES + v / 8 / 8 / 8, three);
+        self.top = remove(&mut self.entries, v);
     }
+}
+
+// Sets the key of v to the larger of its key and this one, where top is the greatest key; the
+// greatest key then.
+pub fn raise(queue: &mut [u64], top: u64, v: usize, key: u64) -> u64
+    requires { Raises queue.old top v key }
+    ensures { Now queue.old v (max (key_at queue.old v) key) queue.new result }
+{
+    lift(queue, KEYS + v, key);
+    lift(queue, ONES + v / 8, key);
+    lift(queue, TWOS + v / 8 / 8, key);
+    lift(queue, THREES + v / 8 / 8 / 8, key);
+    larger(top, key)
+}
+
+// Takes v out of the queue; the greatest key that is left, or 0.
+pub fn remove(queue: &mut [u64], v: usize) -> u64
+    requires { Removes queue.old v }
+    ensures { Now queue.old v 0 queue.new result }
+{
+    let one = regroup(queue, KEYS + v, 0);
+    let two = regroup(queue, ONES + v / 8, one);
+    let three = regroup(queue, TWOS + v / 8 / 8, two);
+    regroup(queue, THREES + v / 8 / 8 / 8, three)
 }
 
 // The larger of two. They are compared with a sign, which takes the machine fewer steps: with `max`

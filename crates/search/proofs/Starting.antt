@@ -57,7 +57,7 @@ module _ {rd : Reading} {ns rs : List ℕ} {trip : Trip} {l : Lists} (a : Explor
             chained = a.chained;
             underway =
                 record {
-                  queued = n.queued;
+                  queued = record { frontier = n.frontier; best = n.best };
                   bounded = λ v. bounded v (ℕ_discrete v trip.source);
                   real = λ v h. real v h (ℕ_discrete v trip.source);
                 };
