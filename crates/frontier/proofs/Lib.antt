@@ -5,6 +5,6 @@ mod Top
 -- raise and remove: a key raised, a key taken out
 mod Changes
 -- a queue in which nothing waits
-mod Empty
+pub mod Empty
 -- pop: the place with the greatest key
 mod Popping

@@ -3,10 +3,11 @@ use Rattle.std.proofs.Common.{◌≡◌, ◌%◌, ◌⊎◌, inl, inr, ◌≢◌
 use Rattle.frontier.specs.Frontier.{places, key_at}
 use Rattle.frontier.specs.Queues.{Queued, Now, Pops}
 use Rattle.frontier.specs.declared.Queue.{Queue}
+use Rattle.frontier.proofs.Empty.{emptied}
 
 module _ {q : Queue} (d : Queued q) where
   pub pops_none : q.top ≡ 0 → Pops q None q
-  pops_none e = (record { queued = d; none = λ v. omega (arith, d.best.most v) }, refl)
+  pops_none e = (record { queued = d; zeros = emptied d.frontier (rw e at d.best) }, refl)
 
   module _ (ne : q.top ≢ 0) where
     top_at : key_at q.entries (q.top % places) ≡ q.top

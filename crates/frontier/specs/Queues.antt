@@ -1,5 +1,6 @@
 -- What the queue's methods ask and keep. No entry's promise cites this file.
 use Rattle.std.specs.Prelude.{◌≡◌, ℕ, ◌%◌, ◌^◌, ◌≤◌, ◌<◌, Option, Some, None}
+use Rattle.lists.specs.Lists.{AllZero}
 use Rattle.frontier.specs.Frontier.{places, key_at, Frontier, Top}
 use Rattle.frontier.specs.Frontier as tree
 use Rattle.frontier.specs.declared.Queue.{Queue}
@@ -9,10 +10,10 @@ pub record Queued (q : Queue) : Type 0 where
   pub frontier : Frontier q.entries
   pub best : Top q.entries q.top
 
--- nothing waits
+-- nothing waits: every entry is 0
 pub record Empty (q : Queue) : Type 0 where
   pub queued : Queued q
-  pub none : (v : ℕ) → key_at q.entries v ≡ 0
+  pub zeros : AllZero q.entries
 
 -- the place v may get this key
 pub record Raises (q : Queue) (v key : ℕ) : Type 0 where

@@ -19,6 +19,7 @@ use Rattle.search.specs.Trails.{Route}
 use Rattle.search.specs.declared.Lists.{Lists}
 use Rattle.search.specs.declared.Trip.{Trip}
 use Rattle.search.proofs.Counting.{settled?, unsettled_waits}
+use Rattle.search.proofs.Packing.{no_key}
 use Rattle.search.proofs.Tracing.{traced}
 
 best_of : {N : Net} {W : ℕ → ℕ} {n s l v x : ℕ} → (0 < x → Route N W n s l v x)
@@ -103,5 +104,5 @@ module _ {N : Net} {psi : ℕ → ℕ} {n turns : ℕ} {trip : Trip} (l : Lists)
   pub explored_all : Idle N psi n trip.source trip.label turns (entry l.labels) (entry l.ways) (waiting l.queue) → Empty l.queue
       → Explored N n trip l
   explored_all i z =
-      let none : (v : ℕ) → waiting l.queue v ≡ 0 = λ v. ap (λ (y : ℕ). y / places) (z.none v) in
+      let none : (v : ℕ) → waiting l.queue v ≡ 0 = λ v. ap (λ (y : ℕ). y / places) (no_key z v) in
       record { best = λ v _. best_all laws i none v; route = route_all laws i none trip.target; emptied = λ _. z }

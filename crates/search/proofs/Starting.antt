@@ -20,7 +20,7 @@ use Rattle.search.specs.declared.Lists.{Lists}
 use Rattle.search.specs.declared.Trip.{Trip}
 use Rattle.search.proofs.Sizes.{junctions_fit, keys_fit}
 use Rattle.search.proofs.Exploring.{ExploreLoop}
-use Rattle.search.proofs.Packing.{put_waiting}
+use Rattle.search.proofs.Packing.{no_key, put_waiting}
 use Rattle.search.proofs.Beginning.{begin}
 
 module _ {rd : Reading} {ns rs : List ℕ} {trip : Trip} {l : Lists} (a : ExploreAsks rd ns rs trip l) where
@@ -39,7 +39,7 @@ module _ {rd : Reading} {ns rs : List ℕ} {trip : Trip} {l : Lists} (a : Explor
       put_label = set_put l.labels (omega (arith, placed)) refl
 
       put_key : Put (waiting l.queue) (waiting q) trip.source (trip.label + psi rd ns trip.source)
-      put_key = put_waiting l.queue q n.put (omega (arith, a.no_key.none trip.source, key_is, placed, keys_fit))
+      put_key = put_waiting l.queue q n.put (omega (arith, no_key a.no_key trip.source, key_is, placed, keys_fit))
 
       bounded : (v : ℕ) → Dec (v ≡ trip.source) → entry labels v ≤ most_label rd.battery
       bounded v (yes e) = omega (arith, ap (entry labels) e, put_label.here, a.sets_out.label_le)
@@ -47,7 +47,7 @@ module _ {rd : Reading} {ns rs : List ℕ} {trip : Trip} {l : Lists} (a : Explor
 
       real : (v : ℕ) → 0 < key_at q.entries v → Dec (v ≡ trip.source) → 0 < waiting q v
       real v h (yes e) = omega (arith, ap (waiting q) e, put_key.here, a.sets_out.some)
-      real v h (no e) = absurd (omega (arith, n.put.rest v e, a.no_key.none v))
+      real v h (no e) = absurd (omega (arith, n.put.rest v e, no_key a.no_key v))
 
       pub explore_start : ExploreLoop rd ns rs trip
           (record { chains = l.chains; labels = set l.labels trip.source trip.label; ways = l.ways; queue = q })
@@ -64,6 +64,6 @@ module _ {rd : Reading} {ns rs : List ℕ} {trip : Trip} {l : Lists} (a : Explor
             turns = 0;
             idle =
                 begin (net rd rs) (psi rd ns) (junctions ns) trip.source trip.label (entry l.labels) (entry l.ways) (waiting l.queue)
-                (entry labels) (waiting q) a.no_label (λ v. ap (λ (y : ℕ). y / places) (a.no_key.none v))
+                (entry labels) (waiting q) a.no_label (λ v. ap (λ (y : ℕ). y / places) (no_key a.no_key v))
                 put_label put_key a.sets_out.some a.sets_out.source_in;
           }

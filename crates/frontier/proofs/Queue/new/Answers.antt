@@ -10,5 +10,5 @@ returns c =
     let n = keys_from + places in
     record {
       queued = record { frontier = empty _ (new_zero n) (omega (arith, length-replicate {A = ℕ} n 0)) refl; best = empty_top _ (new_zero n) };
-      none = λ v. new_zero n (keys_from + v);
+      zeros = new_zero n;
     }
