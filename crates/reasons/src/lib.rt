@@ -56,7 +56,7 @@ fn leads(map: Map, trip: Trip, lists: &mut Lists) -> bool
     requires { LeadAsks (net map.reading map.roads.now).roads trip }
     ensures { Leads (net map.entry.reading map.entry.roads.now).roads trip.source trip.target result }
 {
-    lists.clear();
+    lists.forget();
     search::chain(map, &mut lists.chains);
     reach(map, trip.source, lists);
     0 < lists.labels[trip.target]

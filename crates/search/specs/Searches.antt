@@ -25,6 +25,13 @@ pub record Fresh (l : Lists) : Type 0 where
   pub no_label : AllZero l.labels
   pub no_key : Empty l.queue
 
+-- no road is on a chain, and there is no label; ways and queue stay
+pub record Forgotten (l l' : Lists) : Type 0 where
+  pub no_road : Unchained l'.chains
+  pub no_label : AllZero l'.labels
+  pub ways : l'.ways ≡ l.ways
+  pub queue : l'.queue ≡ l.queue
+
 pub record ExploreAsks (rd : Reading) (ns rs : List ℕ) (trip : Trip) (l : Lists) : Type 0 where
   pub sets_out : SetsOut rd ns rs trip.source trip.label
   pub chained : Chained (net rd rs).roads (road_count rs) l.chains

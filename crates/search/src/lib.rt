@@ -5,7 +5,7 @@ ghost use Rattle.std.specs.Prelude.{◌≡◌, ◌+◌, ◌^◌, ◌<◌, cond, 
 ghost use Rattle.network.specs.Files.{most_roads, junctions, road_count};
 ghost use Rattle.reading.specs.Reading.{psi, net};
 ghost use Rattle.search.specs.Chains.{linked, last_of, previous_of, Chained, ChainAsks};
-ghost use Rattle.search.specs.Searches.{SetsOut, Fresh, ExploreAsks, Explored, Labels};
+ghost use Rattle.search.specs.Searches.{SetsOut, Fresh, Forgotten, ExploreAsks, Explored, Labels};
 ghost use Rattle.search.specs.Sizes.{most_places};
 ghost use Rattle.search.specs.Steps.{packed, KeyAsks, OfferAsks, Offered, RelaxAsks, RelaxKeeps, SpreadAsks, SpreadKeeps};
 
@@ -136,9 +136,16 @@ impl Lists {
     pub fn clear(&mut self)
         ensures { Fresh self.new }
     {
+        self.forget();
+        self.queue.clear();
+    }
+
+    // Takes every road off its chain and every label away.
+    pub fn forget(&mut self)
+        ensures { Forgotten self.old self.new }
+    {
         self.chains[..MOST_PLACES].fill(0);
         self.labels.fill(0);
-        self.queue.clear();
     }
 
     // The last road on the chain of junction u.

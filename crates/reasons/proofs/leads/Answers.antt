@@ -5,4 +5,4 @@ use Rattle.reasons.proofs.leads.Goals as goal
 
 pub reach-requires : goal.reach-requires
 reach-requires c =
-    reach_asks c.requires (sym (count_is c.args.map.reading c.args.map.roads.now)) c.chain.ensures c.clear.ensures.no_label
+    reach_asks c.requires (sym (count_is c.args.map.reading c.args.map.roads.now)) c.chain.ensures c.forget.ensures.no_label
