@@ -46,9 +46,14 @@ pub fn check_drive(
 ) -> Result<(), Refusal>
     ensures { result ≡ first (drive_asked nodes.now roads.now question entries) (records_fault nodes.now roads.now) }
 {
+    let DriveQuestion {
+        battery,
+        start,
+        source,
+    } = question;
     network::check_files(nodes, roads)?;
-    check_energy(question.battery, question.start)?;
-    check_junction(nodes, question.source)?;
+    check_energy(battery, start)?;
+    check_junction(nodes, source)?;
     check_length(entries)?;
     network::check_records(nodes, roads)
 }

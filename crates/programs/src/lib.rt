@@ -2,7 +2,7 @@
 // current folder, and write `bad query`, `no file` or what the library answers.
 #![tactic(auto)]
 
-ghost use Rattle.std.specs.Prelude.{◌≡◌, ◌<◌, ◌≤◌, ℕ, IfOk, IfSome, length, take};
+ghost use Rattle.std.specs.Prelude.{◌≡◌, ◌*◌, ◌^◌, ◌<◌, ◌≤◌, ℕ, IfOk, IfSome, length, take};
 ghost use Rattle.std.specs.Io.KnownBytes.{Consumes, IsAtEnd};
 ghost use Rattle.io.specs.Counts.{IsPrefixLen};
 ghost use Rattle.digits.specs.Puts.{Written};
@@ -53,10 +53,10 @@ pub trait CabProgram<const NUMBERS: usize> {
         requires lent { Lent room size roads.old }
         ensures { Answers program numbers.now nodes.now (take size roads.old) roads.new result };
 
-    // They are for lines of so many numbers.
+    // They are for lines of so many numbers, and an array of these can be.
     ghost counts: { program.count ≡ NUMBERS };
 
-    ghost few: { NUMBERS ≤ 10 };
+    ghost few: { 8 * NUMBERS < 2 ^ 63 };
 }
 
 // What is written: how many bytes at the start of `roads`, of which as many as `files` says are the
