@@ -33,8 +33,8 @@ pub fn check(nodes: &[u8], roads: &[u8]) -> Result<(), Refusal>
 pub fn check_files(nodes: &[u8], roads: &[u8]) -> Result<(), Refusal>
     ensures { result ≡ files_fault nodes.now roads.now }
 {
-    refusals::unless(is_junction_file(nodes), Refusal::JunctionFile)?;
-    refusals::unless(is_road_file(roads), Refusal::RoadFile)
+    let junctions = refusals::unless(is_junction_file(nodes), Refusal::JunctionFile);
+    junctions.and(refusals::unless(is_road_file(roads), Refusal::RoadFile))
 }
 
 // 1 to 2,048 whole records.
