@@ -1,6 +1,6 @@
 // What a line is: a comment, a file of the network or a row.
 use crate::cursor::Cursor;
-use crate::list::{File, Record, read_list};
+use crate::list::File;
 use crate::question::Question;
 use std::io;
 
@@ -18,13 +18,14 @@ pub struct Row<'a> {
     question: Question,
 }
 
-// A line that is in the notation.
-#[derive(Drop)]
+// What a line is by its first word, and what is left of it to be read. The lists are read where they are
+// kept: a function pays for their room each time it is called.
+#[derive(Clone, Copy)]
 pub enum Line<'a> {
     Comment,
-    Junctions(File),
-    Roads(File),
-    Row(Row<'a>),
+    Junctions(Cursor<'a>),
+    Roads(Cursor<'a>),
+    Row(Cursor<'a>),
 }
 
 impl<'a> Line<'a> {
@@ -35,11 +36,11 @@ impl<'a> Line<'a> {
         }
         let mut line = Cursor { rest: text };
         if text.contains(&b':') {
-            return Some(Line::Row(Row::read(line)?));
+            return Some(Line::Row(line));
         }
         match line.until(|b| *b == b' ') {
-            b"junctions" => Some(Line::Junctions(read_list(line, Record::Junction)?)),
-            b"roads" => Some(Line::Roads(read_list(line, Record::Road)?)),
+            b"junctions" => Some(Line::Junctions(line)),
+            b"roads" => Some(Line::Roads(line)),
             _ => None,
         }
     }
@@ -47,7 +48,7 @@ impl<'a> Line<'a> {
 
 impl<'a> Row<'a> {
     // The name up to the colon, and the question after a space.
-    fn read(mut line: Cursor<'a>) -> Option<Self> {
+    pub fn read(mut line: Cursor<'a>) -> Option<Self> {
         let name = line.until(|b| *b == b':');
         line.byte(b':')?;
         line.byte(b' ')?;

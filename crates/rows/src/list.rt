@@ -46,7 +46,7 @@ struct Listing<'a> {
     line: Cursor<'a>,
     group: Cursor<'a>,
     times: u64,
-    file: File,
+    file: &'a mut File,
 }
 
 impl Record {
@@ -69,9 +69,16 @@ impl Record {
     }
 }
 
-// A list that goes to the line's end.
-pub fn read_list(line: Cursor<'_>, record: Record) -> Option<File> {
-    let mut list = Listing::new(line, record);
+// A list that goes to the line's end, into a lent file, whose room is too large to give it back by value.
+pub fn read_list(line: Cursor<'_>, record: Record, file: &mut File) -> Option<()> {
+    file.clear();
+    let mut list = Listing {
+        record,
+        line,
+        group: line,
+        times: 1,
+        file,
+    };
     for items in 1..MOST_STEPS {
         if MOST_STEPS - items <= list.file.len() {
             return None;
@@ -82,7 +89,7 @@ pub fn read_list(line: Cursor<'_>, record: Record) -> Option<File> {
             Item::Cut(size) => return list.cut(size),
             Item::GroupEnd => {
                 if list.end_group()? {
-                    return Some(list.file);
+                    return Some(());
                 }
             }
         }
@@ -90,18 +97,7 @@ pub fn read_list(line: Cursor<'_>, record: Record) -> Option<File> {
     None
 }
 
-impl<'a> Listing<'a> {
-    // Nothing is read yet.
-    fn new(line: Cursor<'a>, record: Record) -> Self {
-        Listing {
-            record,
-            line,
-            group: line,
-            times: 1,
-            file: File::new(),
-        }
-    }
-
+impl Listing<'_> {
     // Passes what stands next. A count stands before its group, a cut at the line's end.
     fn next_item(&mut self) -> Option<Item> {
         let is_first = self.line.rest.len() == self.group.rest.len();
@@ -113,10 +109,13 @@ impl<'a> Listing<'a> {
             if after.rest == b"b".as_slice() {
                 return Some(Item::Cut(n));
             }
-            if is_first && after.byte(b'x').is_some() {
-                self.line = after;
-                return Some(Item::Times(n));
-            }
+            let is_count = is_first && after.byte(b'x').is_some();
+            self.line = after;
+            return Some(if is_count {
+                Item::Times(n)
+            } else {
+                Item::Number(i128::from(n))
+            });
         }
         self.line.number().map(Item::Number)
     }
@@ -133,22 +132,25 @@ impl<'a> Listing<'a> {
 
     // The bytes of a number, if the record's next number can be it and there is room.
     fn add(&mut self, number: i128) -> Option<()> {
-        let file = &mut self.file;
-        let added = match self.record.kind_at(file.len()) {
-            Kind::U16 => file.try_extend_from_slice(&u16::try_from(number).ok()?.to_le_bytes()),
-            Kind::I32 => file.try_extend_from_slice(&i32::try_from(number).ok()?.to_le_bytes()),
+        let added = match self.record.kind_at(self.file.len()) {
+            Kind::U16 => self
+                .file
+                .try_extend_from_slice(&u16::try_from(number).ok()?.to_le_bytes()),
+            Kind::I32 => self
+                .file
+                .try_extend_from_slice(&i32::try_from(number).ok()?.to_le_bytes()),
         };
         added.ok()
     }
 
     // The first bytes, if there are so many.
-    fn cut(mut self, size: u64) -> Option<File> {
+    fn cut(&mut self, size: u64) -> Option<()> {
         let size = usize::try_from(size).ok()?;
         if self.file.len() < size {
             return None;
         }
         self.file.truncate(size);
-        Some(self.file)
+        Some(())
     }
 
     // The group is read again, or the line ends, or a comma stands here and the next group begins.

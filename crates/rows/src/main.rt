@@ -17,8 +17,9 @@ mod list;
 mod question;
 
 use arrayvec::ArrayVec;
-use line::{Line, Network};
-use list::File;
+use cursor::Cursor;
+use line::{Line, Network, Row};
+use list::{File, Record, read_list};
 use std::io;
 use std::io::Read;
 
@@ -41,16 +42,38 @@ fn run(rt: &impl Print, text: &[u8]) -> io::Result<()> {
         junctions: File::new(),
         roads: File::new(),
     };
+    let mut list = File::new();
     for (number, line) in (1u64..).zip(text.split(|b| *b == b'\n')) {
-        match Line::read(line) {
-            Some(Line::Comment) => (),
-            Some(Line::Junctions(file)) => network.junctions = file,
-            Some(Line::Roads(file)) => network.roads = file,
-            Some(Line::Row(row)) => row.answer(rt, &network)?,
-            None => bad_row(rt, number)?,
+        let done = match Line::read(line) {
+            Some(Line::Comment) => Some(()),
+            Some(Line::Junctions(line)) => {
+                set(&mut network.junctions, line, Record::Junction, &mut list)
+            }
+            Some(Line::Roads(line)) => set(&mut network.roads, line, Record::Road, &mut list),
+            Some(Line::Row(row)) => answer(rt, row, &network)?,
+            None => None,
+        };
+        if done.is_none() {
+            bad_row(rt, number)?;
         }
     }
     Ok(())
+}
+
+// A file of the network, from here on, if the list is in the notation.
+fn set(file: &mut File, line: Cursor<'_>, record: Record, list: &mut File) -> Option<()> {
+    read_list(line, record, list)?;
+    file.clear();
+    file.try_extend_from_slice(list).ok()
+}
+
+// A row, asked of the network.
+fn answer(rt: &impl Print, line: Cursor<'_>, network: &Network) -> io::Result<Option<()>> {
+    let Some(row) = Row::read(line) else {
+        return Ok(None);
+    };
+    row.answer(rt, network)?;
+    Ok(Some(()))
 }
 
 // A line that is not in the notation; 0 stands for those that there is no room for, and is printed so.

@@ -2,7 +2,7 @@
 // printed in the order of its answer's fields.
 use crate::cursor::Cursor;
 use crate::line::Network;
-use crate::list::{Record, read_list};
+use crate::list::{File, Record, read_list};
 use arrayvec::ArrayVec;
 use promises::{
     CheckNumbers, DriveNumbers, DriveQuestion, PlanNumbers, PlanQuestion, ProfileNumbers,
@@ -101,7 +101,8 @@ fn read_entries<T: From<u16> + Default + Drop>(mut line: Cursor<'_>) -> Option<E
         return Some(list);
     }
     line.byte(b',')?;
-    let file = read_list(line, Record::Entry)?;
+    let mut file = File::new();
+    read_list(line, Record::Entry, &mut file)?;
     let (entries, _) = file.as_slice().as_chunks::<2>();
     for bytes in entries {
         list.try_push(T::from(u16::from_le_bytes(*bytes))).ok()?;
