@@ -107,7 +107,7 @@ module _ {B : Battery} {p : Profile} {r : Road} (E : Extends B p r) where
   sum_read =
       ap (λ (z : ℤ). to_z w64 (of_z w64 z)) (λ i. sum_back i +ℤ wide_back (used_fits E.ranged) i) ∙ to_z-of_z sum_fits
 
-  reach_read : {n : ℕ} → n ≡ draw r.consumption
+  pub reach_read : {n : ℕ} → n ≡ draw r.consumption
       → to_z w64 (of_z w64 (to_z w64 (of_z w64 p.sum) +ℤ to_z w64 n)) ≡ p.sum +ℤ pos (draw r.consumption)
   reach_read {n} e =
       let d = E.ranged.draw_le in

@@ -1,4 +1,5 @@
-// Numbers as the two files store them, and signed numbers taken apart into naturals.
+// Numbers as the two files store them, and signed numbers taken apart into naturals. A number is joined
+// from the lent bytes where they lie: `from_le_bytes` takes an array of them, and no record is copied.
 #![tactic(auto)]
 
 ghost use Rattle.std.specs.Prelude.{◌≡◌, true, ◌+◌, ◌*◌, ◌^◌, ◌≤◌, ◌<◌, pos, length};

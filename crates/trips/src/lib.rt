@@ -13,6 +13,7 @@ use search::{Lists, Map, Trip};
 
 // The best route from the trip's source to its target, written at the front of the list, and how many
 // roads it has; or why there is none.
+#[tactic(auto, using(crate::proofs::Finding::finds_nowhere))]
 pub fn find(
     nodes: &[u8],
     roads: &[u8],
