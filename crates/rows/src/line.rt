@@ -12,7 +12,7 @@ pub struct Network {
 }
 
 // A row: its name, and what is asked.
-#[derive(Drop)]
+#[derive(Clone, Copy)]
 pub struct Row<'a> {
     name: &'a [u8],
     question: Question,
@@ -47,20 +47,20 @@ impl<'a> Line<'a> {
 }
 
 impl<'a> Row<'a> {
-    // The name up to the colon, and the question after a space.
-    pub fn read(mut line: Cursor<'a>) -> Option<Self> {
+    // The name up to the colon, and the question after a space, its list in the lent file.
+    pub fn read(mut line: Cursor<'a>, list: &mut File) -> Option<Self> {
         let name = line.until(|b| *b == b':');
         line.byte(b':')?;
         line.byte(b' ')?;
-        let question = Question::read(line)?;
+        let question = Question::read(line, list)?;
         Some(Row { name, question })
     }
 
     // Prints the row: its name and what is given back.
-    pub fn answer(self, rt: &impl Print, network: &Network) -> io::Result<()> {
+    pub fn answer(self, rt: &impl Print, network: &Network, list: &File) -> io::Result<()> {
         rt.write_all(self.name)?;
         print!(rt; ":")?;
-        self.question.answer(rt, network)?;
+        self.question.answer(rt, network, list)?;
         println!(rt; "")
     }
 }

@@ -50,7 +50,7 @@ fn run(rt: &impl Print, text: &[u8]) -> io::Result<()> {
                 set(&mut network.junctions, line, Record::Junction, &mut list)
             }
             Some(Line::Roads(line)) => set(&mut network.roads, line, Record::Road, &mut list),
-            Some(Line::Row(row)) => answer(rt, row, &network)?,
+            Some(Line::Row(line)) => answer(rt, line, &network, &mut list)?,
             None => None,
         };
         if done.is_none() {
@@ -68,11 +68,16 @@ fn set(file: &mut File, line: Cursor<'_>, record: Record, list: &mut File) -> Op
 }
 
 // A row, asked of the network.
-fn answer(rt: &impl Print, line: Cursor<'_>, network: &Network) -> io::Result<Option<()>> {
-    let Some(row) = Row::read(line) else {
+fn answer(
+    rt: &impl Print,
+    line: Cursor<'_>,
+    network: &Network,
+    list: &mut File,
+) -> io::Result<Option<()>> {
+    let Some(row) = Row::read(line, list) else {
         return Ok(None);
     };
-    row.answer(rt, network)?;
+    row.answer(rt, network, list)?;
     Ok(Some(()))
 }
 

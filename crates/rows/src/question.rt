@@ -18,96 +18,83 @@ const MOST_LIST: usize = routes::MOST_ENTRIES + 1;
 // The list of a row: a route, or what is lent for roads or charges.
 type Entries<T> = ArrayVec<T, MOST_LIST>;
 
-// An entry, what it is asked and its list.
-#[derive(Drop)]
+// An entry and what it is asked.
+#[derive(Clone, Copy)]
 pub enum Question {
     Check,
-    Drive(DriveQuestion, Entries<u16>),
-    Profile(ProfileQuestion, Entries<u16>),
-    BestRoute(PlanQuestion, Entries<u16>),
-    SetOff(SetOffQuestion, Entries<i32>),
+    Drive(DriveQuestion),
+    Profile(ProfileQuestion),
+    BestRoute(PlanQuestion),
+    SetOff(SetOffQuestion),
 }
 
 impl Question {
-    // A keyword, its numbers and its list, to the line's end.
-    pub fn read(mut line: Cursor<'_>) -> Option<Self> {
-        match line.until(|b| *b == b' ') {
-            b"check" => read_check(line),
-            b"drive" => read_drive(line),
-            b"profile" => read_profile(line),
-            b"best_route" => read_best_route(line),
-            b"set_off" => read_set_off(line),
-            _ => None,
-        }
+    // A keyword, its numbers and its list, to the line's end; the list's bytes are in the lent file.
+    pub fn read(mut line: Cursor<'_>, list: &mut File) -> Option<Self> {
+        let question = match line.until(|b| *b == b' ') {
+            b"check" => Question::Check,
+            b"drive" => Question::Drive(DriveQuestion {
+                battery: line.bits()?.cast_signed(),
+                start: line.bits()?.cast_signed(),
+                source: line.bits()?,
+            }),
+            b"profile" => Question::Profile(ProfileQuestion {
+                battery: line.bits()?.cast_signed(),
+                source: line.bits()?,
+            }),
+            b"best_route" => Question::BestRoute(PlanQuestion {
+                battery: line.bits()?.cast_signed(),
+                start: line.bits()?.cast_signed(),
+                source: line.bits()?,
+                target: line.bits()?,
+            }),
+            b"set_off" => Question::SetOff(SetOffQuestion {
+                battery: line.bits()?.cast_signed(),
+                depot: line.bits()?,
+            }),
+            _ => return None,
+        };
+        let count = read_entries(line, list)?;
+        let most = match question {
+            Question::Check => 0,
+            _ => MOST_LIST,
+        };
+        (count <= most).then_some(question)
     }
 
-    // Asks the entry, and prints its answer.
-    pub fn answer(self, rt: &impl Print, network: &Network) -> io::Result<()> {
+    // Asks the entry with this list, and prints its answer.
+    pub fn answer(self, rt: &impl Print, network: &Network, list: &File) -> io::Result<()> {
         match self {
             Question::Check => check(rt, network),
-            Question::Drive(question, route) => drive(rt, network, question, &route),
-            Question::Profile(question, route) => profile(rt, network, question, &route),
-            Question::BestRoute(question, lent) => best_route(rt, network, question, lent),
-            Question::SetOff(question, lent) => set_off(rt, network, question, lent),
+            Question::Drive(question) => drive(rt, network, question, &entries(list)),
+            Question::Profile(question) => profile(rt, network, question, &entries(list)),
+            Question::BestRoute(question) => best_route(rt, network, question, entries(list)),
+            Question::SetOff(question) => set_off(rt, network, question, entries(list)),
         }
     }
 }
 
-// A check has no list.
-fn read_check(line: Cursor<'_>) -> Option<Question> {
-    let list: Entries<u16> = read_entries(line)?;
-    list.is_empty().then_some(Question::Check)
-}
-
-fn read_drive(mut line: Cursor<'_>) -> Option<Question> {
-    let question = DriveQuestion {
-        battery: line.bits()?.cast_signed(),
-        start: line.bits()?.cast_signed(),
-        source: line.bits()?,
-    };
-    Some(Question::Drive(question, read_entries(line)?))
-}
-
-fn read_profile(mut line: Cursor<'_>) -> Option<Question> {
-    let question = ProfileQuestion {
-        battery: line.bits()?.cast_signed(),
-        source: line.bits()?,
-    };
-    Some(Question::Profile(question, read_entries(line)?))
-}
-
-fn read_best_route(mut line: Cursor<'_>) -> Option<Question> {
-    let question = PlanQuestion {
-        battery: line.bits()?.cast_signed(),
-        start: line.bits()?.cast_signed(),
-        source: line.bits()?,
-        target: line.bits()?,
-    };
-    Some(Question::BestRoute(question, read_entries(line)?))
-}
-
-fn read_set_off(mut line: Cursor<'_>) -> Option<Question> {
-    let question = SetOffQuestion {
-        battery: line.bits()?.cast_signed(),
-        depot: line.bits()?,
-    };
-    Some(Question::SetOff(question, read_entries(line)?))
-}
-
-// The list after a comma, or none at the line's end: as many entries as its bytes hold.
-fn read_entries<T: From<u16> + Default + Drop>(mut line: Cursor<'_>) -> Option<Entries<T>> {
-    let mut list = Entries::new();
-    if line.rest.is_empty() {
-        return Some(list);
+// The list after a comma, or none at the line's end: how many entries its bytes hold.
+fn read_entries(mut line: Cursor<'_>, list: &mut File) -> Option<usize> {
+    list.clear();
+    if !line.rest.is_empty() {
+        line.byte(b',')?;
+        read_list(line, Record::Entry, list)?;
     }
-    line.byte(b',')?;
-    let mut file = File::new();
-    read_list(line, Record::Entry, &mut file)?;
-    let (entries, _) = file.as_slice().as_chunks::<2>();
-    for bytes in entries {
-        list.try_push(T::from(u16::from_le_bytes(*bytes))).ok()?;
+    Some(list.len() / 2)
+}
+
+// The entries, as many as there is room for.
+fn entries<T: From<u16> + Default + Drop>(list: &File) -> Entries<T> {
+    let mut entries = Entries::new();
+    let (numbers, _) = list.as_slice().as_chunks::<2>();
+    for bytes in numbers {
+        let entry = T::from(u16::from_le_bytes(*bytes));
+        if entries.try_push(entry).is_err() {
+            break;
+        }
     }
-    Some(list)
+    entries
 }
 
 // Each entry's answer, as numbers: each names the fields of its own.
