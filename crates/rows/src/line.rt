@@ -18,8 +18,8 @@ pub struct Row<'a> {
     question: Question,
 }
 
-// What a line is by its first word, and what is left of it to be read. The lists are read where they are
-// kept: a function pays for their room each time it is called.
+// What a line is by its first word, and what is left of it to be read. Its list is read later, into a
+// file that `run` lends: a function pays for the room of a list each time it is called.
 #[derive(Clone, Copy)]
 pub enum Line<'a> {
     Comment,
