@@ -4,12 +4,13 @@
 
 ghost use Rattle.std.specs.Prelude.{◌≡◌};
 ghost use Rattle.std.proofs.Common.{rules};
+ghost use Rattle.std.proofs.Math.Dec.{lit≤};
 ghost use Rattle.programs.specs.Shared.{Small};
 ghost use Rattle.text.specs.Answer.{most_route};
 ghost use Rattle.text.specs.Room.{route_room};
 ghost use Rattle.plan.specs.Response.{question, plan_program};
 
-use programs::{CabProgram, MOST_NUMBER, NODES_ROOM, ROADS_ROOM};
+use programs::{CabProgram, MOST_NUMBER, NODES_ROOM, ROADS_ROOM, ShortProgram};
 use promises::{PlanNumbers, PlanQuestion};
 use std::io;
 use text::MOST_ROUTE;
@@ -50,6 +51,10 @@ impl CabProgram<NUMBERS> for Plan {
         };
         text::write_route(roads, given, &list[..route.roads])
     }
+}
+
+impl ShortProgram<NUMBERS> for Plan {
+    ghost ten_at_most = { lit≤ tt };
 }
 
 // What the line asks.

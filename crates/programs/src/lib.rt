@@ -59,6 +59,11 @@ pub trait CabProgram<const NUMBERS: usize> {
     ghost few: { 8 * NUMBERS < 2 ^ 63 };
 }
 
+// A program whose line has ten numbers at most, as both of the cab have.
+pub trait ShortProgram<const NUMBERS: usize>: CabProgram<NUMBERS> {
+    ghost ten_at_most: { NUMBERS ≤ 10 };
+}
+
 // What is written: how many bytes at the start of `roads`, of which as many as `files` says are the
 // file of the roads.
 pub fn respond<const NUMBERS: usize, P: CabProgram<NUMBERS>>(

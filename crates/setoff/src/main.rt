@@ -5,12 +5,13 @@
 
 ghost use Rattle.std.specs.Prelude.{◌≡◌};
 ghost use Rattle.std.proofs.Common.{rules};
+ghost use Rattle.std.proofs.Math.Dec.{lit≤};
 ghost use Rattle.network.specs.Files.{most_junctions};
 ghost use Rattle.programs.specs.Shared.{Small};
 ghost use Rattle.text.specs.Room.{charges_room};
 ghost use Rattle.setoff.specs.Response.{question, set_off_program};
 
-use programs::{CabProgram, MOST_NUMBER, NODES_ROOM, ROADS_ROOM};
+use programs::{CabProgram, MOST_NUMBER, NODES_ROOM, ROADS_ROOM, ShortProgram};
 use promises::{CheckNumbers, SetOffQuestion};
 use std::io;
 
@@ -51,6 +52,10 @@ impl CabProgram<NUMBERS> for SetOff {
         let count = nodes.len() / network::JUNCTION_BYTES;
         text::write_charges(roads, &list[..count])
     }
+}
+
+impl ShortProgram<NUMBERS> for SetOff {
+    ghost ten_at_most = { lit≤ tt };
 }
 
 // What the line asks.
